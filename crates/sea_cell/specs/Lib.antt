@@ -1,0 +1,5 @@
+pub mod Answers
+pub mod Cells
+pub mod Conversion
+pub mod Sizes
+pub mod Words

@@ -1,0 +1,28 @@
+//! Values, columns and rows: what a table is made of.
+//!
+//! It stands on the range of moments and on JSON values. The contract that matters to the crates above is that of
+//! `cell_of_json`: which cell a column makes of what an operation says, or why it takes none. Texts and lists are
+//! small types that contracts see as lists of bytes and of items, `Cells` as the list of a row's cells by rising key.
+#![tactic(auto)]
+
+mod cellular;
+mod conversion;
+mod duplicate;
+mod keys;
+mod layout;
+mod selection;
+mod sizes;
+mod text_type;
+mod values;
+mod words;
+
+pub use cellular::{Cell, Cells, Row, Rows};
+pub use conversion::{CellFault, cell_of_json, json_of_cell};
+pub use duplicate::Duplicate;
+pub use keys::{ColKey, Ids, Moment, RowId, TableNo};
+pub use layout::{ColKind, Column, Columns, LinkEnd, NewColumn, NewColumns, NewEnd};
+pub use selection::{Filter, Filters, Term, Test, View, Views};
+pub use sizes::row_bytes;
+pub use text_type::{Text, Texts};
+pub use values::CellValue;
+pub use words::{CellWord, word_of_json};

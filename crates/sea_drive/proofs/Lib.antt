@@ -1,0 +1,10 @@
+pub mod OperationsLaws
+pub mod TextsLaws
+pub mod ReplyLaws
+pub mod RunLaws
+pub mod OutcomeLaws
+pub mod LinesOf
+pub mod LinesBuffer
+pub mod LinesSteps
+pub mod LinesLaws
+pub mod PlayLaws

@@ -1,0 +1,51 @@
+-- No outcome has a float in its JSON, so its text is that of its JSON.
+use Rattle.std.proofs.Common.{◌≡◌, ◌≢◌, ℕ, List, [], ◌∷◌, ◌++◌, false, map, refl}
+use Rattle.serde_json.specs.Data.{string}
+use Rattle.serde_json.specs.View.{items_of}
+use Rattle.serde_json.specs.Written.{has_float, items_have_float, compact_text}
+use Rattle.sea_cell.specs.Conversion.{json_of}
+use Rattle.sea_cell.specs.declared.values.CellValue.{CellValue}
+use Rattle.sea_cell.specs.declared.values.CellValue.TheVariants as cell
+use Rattle.sea_drive.specs.Reply.{row_json, outcome_json, outcome_line}
+use Rattle.sea_drive.specs.declared.outcome.LineOutcome.{LineOutcome}
+use Rattle.sea_drive.specs.declared.outcome.LineOutcome.TheVariants.{Silent, Version, Rows, NoTable, BadLine, NotYet}
+
+texts_float : (texts : List (List ℕ)) → items_have_float (items_of (map string texts)) ≡ false
+texts_float [] = refl
+texts_float (_ ∷ texts) = texts_float texts
+
+cell_float : (value : CellValue) → has_float (json_of value) ≡ false
+cell_float (cell.Text _) = refl
+cell_float cell.Empty = refl
+cell_float (cell.Number _) = refl
+cell_float (cell.Check _) = refl
+cell_float (cell.Moment _) = refl
+cell_float (cell.Choice _) = refl
+cell_float (cell.Choices _) = refl
+cell_float (cell.Names _) = refl
+cell_float (cell.Links _) = refl
+
+cells_float : (cells : List CellValue) → items_have_float (items_of (map json_of cells)) ≡ false
+cells_float [] = refl
+cells_float (value ∷ cells) = rw (cell_float value) (cells_float cells)
+
+rows_float : (rows : List (List CellValue)) → items_have_float (items_of (map row_json rows)) ≡ false
+rows_float [] = refl
+rows_float (row ∷ rows) = rw (cells_float row) (rows_float rows)
+
+pub outcome_float : (outcome : LineOutcome) → has_float (outcome_json outcome) ≡ false
+outcome_float Silent = refl
+outcome_float (Version _) = refl
+outcome_float (Rows answer) = rw (texts_float answer.columns, rows_float answer.rows) refl
+outcome_float (NoTable _) = refl
+outcome_float BadLine = refl
+outcome_float NotYet = refl
+
+-- an outcome with a reply
+pub line-shown : (outcome : LineOutcome) → outcome ≢ Silent → outcome_line outcome ≡ compact_text (outcome_json outcome) ++ 10 ∷ []
+line-shown Silent h = absurd (h refl)
+line-shown (Version _) h = refl
+line-shown (Rows _) h = refl
+line-shown (NoTable _) h = refl
+line-shown BadLine h = refl
+line-shown NotYet h = refl

@@ -1,0 +1,11 @@
+pub mod Lines
+pub mod Operations
+pub mod Outcome
+pub mod Play
+pub mod Reader
+pub mod Reply
+pub mod Run
+pub mod Select
+pub mod Status
+pub mod Texts
+pub mod Words

@@ -1,0 +1,45 @@
+-- The line that is written for an outcome: compact JSON with its members in byte order, and a newline.
+use Rattle.std.specs.Prelude.{ℕ, List, [], ◌∷◌, ◌++◌, map, Option, Some, None, codes}
+use Rattle.serde_json.specs.Data.{Data, null, number, unsigned, string, array, object, member, no_members}
+use Rattle.serde_json.specs.View.{items_of}
+use Rattle.serde_json.specs.Written.{compact_text}
+use Rattle.sea_cell.specs.Conversion.{json_of}
+use Rattle.sea_cell.specs.declared.values.CellValue.{CellValue}
+use Rattle.sea_drive.specs.declared.outcome.LineOutcome.{LineOutcome}
+use Rattle.sea_drive.specs.declared.outcome.LineOutcome.TheVariants.{Silent, Version, Rows, NoTable, BadLine, NotYet}
+
+-- an array of texts
+abbrev pub texts_json : List (List ℕ) → Data
+texts_json texts = array (items_of (map string texts))
+
+-- an array of the cells of a row
+abbrev pub row_json : List CellValue → Data
+row_json cells = array (items_of (map json_of cells))
+
+-- an array of rows
+abbrev pub rows_json : List (List CellValue) → Data
+rows_json rows = array (items_of (map row_json rows))
+
+-- an object that names an error
+abbrev pub error_json : List ℕ → Data
+error_json error = object (member (codes "error") (string error) no_members)
+
+-- what is shown of an outcome
+abbrev pub outcome_json : LineOutcome → Data
+outcome_json Silent = null
+outcome_json (Version version) = object (member (codes "version") (number (unsigned version)) no_members)
+outcome_json (Rows answer) =
+    object (member (codes "columns") (texts_json answer.columns) (member (codes "rows") (rows_json answer.rows) no_members))
+outcome_json (NoTable name) = object (member (codes "error") (string (codes "NoTable")) (member (codes "name") (string name) no_members))
+outcome_json BadLine = error_json (codes "BadLine")
+outcome_json NotYet = error_json (codes "NotYet")
+
+-- the line of an outcome, and none for a line that asks for no reply
+abbrev pub outcome_line : LineOutcome → List ℕ
+outcome_line Silent = []
+outcome_line outcome = compact_text (outcome_json outcome) ++ 10 ∷ []
+
+-- the same, where None is want of memory
+unfoldable pub reply_line : Option LineOutcome → List ℕ
+reply_line (Some outcome) = outcome_line outcome
+reply_line None = codes "{\"error\":\"Memory\"}\n"

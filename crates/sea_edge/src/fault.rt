@@ -1,0 +1,14 @@
+// How a fault of the outside is counted.
+ghost use Rattle.std.specs.Prelude.{◌≡◌, ◌≤◌};
+ghost use Rattle.sea_edge.specs.Faults.{one_more};
+
+use crate::outside::Failed;
+
+// Counts one more fault, and gives it. The count stands still at `u64::MAX`.
+pub(crate) fn counted(faults: &mut u64) -> Failed
+    ensures raised { faults.new ≡ one_more faults.old }
+    ensures later { faults.old ≤ faults.new }
+{
+    *faults = faults.saturating_add(1);
+    Failed
+}

@@ -1,0 +1,62 @@
+//! The range of moments: minutes from 1970-01-01 00:00 UTC within the years 1 to 9999.
+//!
+//! It stands on nothing. What the crates above use is `is_moment` and the definition `IsMoment` in its contract.
+#![tactic(auto)]
+
+ghost use Rattle.std.specs.Prelude.{◌≡◌, ◌↔◌, ◌≤ℤ◌, IsTrue};
+ghost use Rattle.sea_moment.specs.Moment.{first_moment, last_moment, IsMoment, is_in_range};
+
+/// 0001-01-01 00:00, the first moment, in minutes from 1970-01-01 00:00 UTC.
+pub const FIRST: i64 = -1_035_593_280;
+
+/// 9999-12-31 23:59, the last moment, in minutes from 1970-01-01 00:00 UTC.
+pub const LAST: i64 = 4_223_371_679;
+
+/// Whether this number of minutes lies in the range, both ends included.
+pub fn is_moment(minutes: i64) -> bool
+    ensures range { IsTrue result ↔ IsMoment minutes }
+    ensures test { result ≡ is_in_range minutes }
+{
+    FIRST <= minutes && minutes <= LAST
+}
+
+/// The moment that lies nearest to a number of minutes: the number itself, or the end that it lies beyond.
+pub fn nearest(minutes: i64) -> i64
+    ensures moment { IsMoment result }
+    ensures same { IsMoment minutes → result ≡ minutes }
+    ensures before { minutes ≤ℤ first_moment → result ≡ first_moment }
+    ensures after { last_moment ≤ℤ minutes → result ≡ last_moment }
+{
+    minutes.clamp(FIRST, LAST)
+}
+
+#[cfg(test)]
+mod tests {
+    use super::*;
+
+    #[test]
+    fn ends_and_beyond(rt: HostRuntime) {
+        let rows = [
+            (i64::MIN, false, FIRST),
+            (FIRST - 1, false, FIRST),
+            (FIRST, true, FIRST),
+            (0, true, 0),
+            // 2024-01-01 00:00 UTC
+            (28_401_120, true, 28_401_120),
+            (LAST, true, LAST),
+            (LAST + 1, false, LAST),
+            (i64::MAX, false, LAST),
+        ];
+        for (minutes, inside, moment) in rows {
+            assert_eq!(rt; is_moment(minutes), inside, "at {minutes}");
+            assert_eq!(rt; nearest(minutes), moment, "at {minutes}");
+        }
+    }
+
+    #[test]
+    fn ends_by_the_calendar(rt: HostRuntime) {
+        // 719,162 days lie before 1970-01-01 from 0001-01-01, and 2,932,897 from it up to 10000-01-01.
+        assert_eq!(rt; FIRST, -719_162 * 1_440);
+        assert_eq!(rt; LAST, 2_932_897 * 1_440 - 1);
+    }
+}

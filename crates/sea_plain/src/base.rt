@@ -1,0 +1,97 @@
+// The plain base: what a base is to those who read and edit it.
+ghost use Rattle.std.specs.Prelude.{◌≡◌, IfOk};
+ghost use Rattle.sea_plain.specs.Base.{empty_base};
+
+use sea_cell::{Columns, Duplicate, RowId, Rows, TableNo, Text, Views};
+use sqlite_items::Items;
+use std::alloc::{AllocError, Global};
+
+/// A table: its number, its name, its columns and views in the order in which they were added, and its rows in order
+/// of row number.
+#[derive(Drop)]
+pub struct PlainTable {
+    pub no: TableNo,
+    pub name: Text,
+    pub columns: Columns,
+    pub views: Views,
+    pub rows: Rows,
+}
+
+/// The tables of a base in order of number.
+pub type PlainTables = Items<PlainTable>;
+
+/// Two rows that a link joins: the row on the link's first side, and the one on its other side.
+#[derive(Drop)]
+pub struct LinkPair {
+    pub link: u32,
+    pub first: RowId,
+    pub second: RowId,
+}
+
+/// The link pairs of a base in the order in which they were added.
+pub type LinkPairs = Items<LinkPair>;
+
+/// A plain base: how many operations it has taken, the numbers that come next, its tables and its link pairs.
+#[derive(Drop)]
+pub struct Plain {
+    pub version: u64,
+    pub next_row: u64,
+    pub next_table: u32,
+    pub next_column: u32,
+    pub next_link: u32,
+    pub tables: PlainTables,
+    pub pairs: LinkPairs,
+}
+
+impl Plain {
+    /// The empty base, of version 0. Each number begins at 1.
+    pub fn new(alloc: Global) -> Plain
+        ensures { result ≡ empty_base }
+    {
+        Plain {
+            version: 0,
+            next_row: 1,
+            next_table: 1,
+            next_column: 1,
+            next_link: 1,
+            tables: Items::new(alloc),
+            pairs: Items::new(alloc),
+        }
+    }
+}
+
+impl Duplicate for PlainTable {
+    fn duplicate(&self, alloc: Global) -> Result<PlainTable, AllocError> {
+        Ok(PlainTable {
+            no: self.no,
+            name: self.name.duplicate(alloc)?,
+            columns: self.columns.duplicate(alloc)?,
+            views: self.views.duplicate(alloc)?,
+            rows: self.rows.duplicate(alloc)?,
+        })
+    }
+}
+
+impl Duplicate for LinkPair {
+    fn duplicate(&self, alloc: Global) -> Result<LinkPair, AllocError> {
+        Ok(LinkPair {
+            link: self.link,
+            first: self.first.duplicate(alloc)?,
+            second: self.second.duplicate(alloc)?,
+        })
+    }
+}
+
+impl Duplicate for Plain {
+    fn duplicate(&self, alloc: Global) -> Result<Plain, AllocError> {
+        Ok(Plain {
+            version: self.version,
+            next_row: self.next_row,
+            next_table: self.next_table,
+            next_column: self.next_column,
+            next_link: self.next_link,
+            tables: self.tables.duplicate(alloc)?,
+            pairs: self.pairs.duplicate(alloc)?,
+        })
+    }
+}

@@ -1,0 +1,21 @@
+// Tables and columns by name.
+ghost use Rattle.std.specs.Prelude.{◌≡◌};
+ghost use Rattle.std.specs.Option.{option_copied};
+ghost use Rattle.sea_plain.specs.Base.{table_named as table_named_of, column_named as column_named_of};
+
+use crate::base::PlainTable;
+use sea_cell::Column;
+
+/// The table of a name, where there is one.
+pub fn table_named<'a>(tables: &'a [PlainTable], name: &str) -> Option<&'a PlainTable>
+    ensures { option_copied result ≡ table_named_of tables.now name.now }
+{
+    tables.iter().find(|table| table.name.as_str() == name)
+}
+
+/// The column of a name, where there is one.
+pub fn column_named<'a>(columns: &'a [Column], name: &str) -> Option<&'a Column>
+    ensures { option_copied result ≡ column_named_of columns.now name.now }
+{
+    columns.iter().find(|column| column.name.as_str() == name)
+}

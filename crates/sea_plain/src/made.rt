@@ -1,0 +1,170 @@
+// The rows and columns that an operation makes.
+ghost use Rattle.std.specs.Prelude.{◌≡◌, ◌+◌, ◌≤◌, ◌^◌, ◌<◌, map, length, IfOk, OnOk};
+ghost use Rattle.sea_cell.specs.Cells.{with_cell};
+ghost use Rattle.sea_plain.specs.Refusal.{ids_in};
+ghost use Rattle.sea_plain.specs.RowsOf.{id_of as id_for, ids_of as ids_for, with_member as with_member_of, cells_of as cells_for, row_of as row_for, rows_of as rows_for, column_of as column_for, columns_of as columns_for};
+
+use crate::base::Plain;
+use crate::lookup::{column_named, table_named};
+use crate::operation::{NamedCell, OpRow};
+use sea_cell::{
+    CellFault, Cells, ColKey, Column, Columns, Duplicate, Moment, NewColumn, Row, RowId, Rows,
+    Text, Texts, cell_of_json,
+};
+use sqlite_items::Items;
+use std::alloc::{AllocError, Global};
+
+/// The names of new columns.
+pub fn names_of(alloc: Global, columns: &[NewColumn]) -> Result<Texts, AllocError>
+    ensures { IfOk result (λ names. names ≡ map (λ column. column.name) columns.now) }
+{
+    let mut names = Items::new(alloc);
+    for column in columns {
+        names.push(column.name.duplicate(alloc)?)?;
+    }
+    Ok(names)
+}
+
+/// The ids of the rows of the table of a name, or none.
+pub fn ids_in_use(alloc: Global, base: &Plain, name: &str) -> Result<Texts, AllocError>
+    ensures { IfOk result (λ ids. ids ≡ ids_in base.now name.now) }
+{
+    match table_named(base.tables.as_slice(), name) {
+        Some(table) => ids_of_rows(alloc, table.rows.as_slice()),
+        None => Ok(Items::new(alloc)),
+    }
+}
+
+fn ids_of_rows(alloc: Global, rows: &[Row]) -> Result<Texts, AllocError>
+    ensures { IfOk result (λ ids. ids ≡ map (λ row. row.id.0) rows.now) }
+{
+    let mut ids = Items::new(alloc);
+    for row in rows {
+        ids.push(row.id.0.duplicate(alloc)?)?;
+    }
+    Ok(ids)
+}
+
+/// The ids of new rows that are numbered from `number`.
+pub fn ids_of(alloc: Global, number: u64, rows: &[OpRow]) -> Result<Texts, AllocError>
+    requires { number + length rows.now < 2 ^ 64 }
+    ensures { IfOk result (λ ids. ids ≡ ids_for number rows.now) }
+{
+    let mut ids = Items::new(alloc);
+    let mut next = number;
+    for row in rows {
+        ids.push(id_of(alloc, next, row)?)?;
+        next += 1;
+    }
+    Ok(ids)
+}
+
+// The id of a new row: the one that is given, or `r` and the row's number.
+fn id_of(alloc: Global, number: u64, row: &OpRow) -> Result<Text, AllocError>
+    ensures { IfOk result (λ id. id ≡ id_for number row.now) }
+{
+    match &row.id {
+        Some(id) => Ok(id.duplicate(alloc)?),
+        None => Ok(Text::from(format!(in alloc; "r{number}")?)),
+    }
+}
+
+/// New rows that are numbered from `number`.
+pub fn rows_of(
+    alloc: Global,
+    columns: &[Column],
+    moment: Moment,
+    number: u64,
+    rows: &[OpRow],
+) -> Result<Rows, AllocError>
+    requires { number + length rows.now < 2 ^ 64 }
+    ensures { IfOk result (λ made. made ≡ rows_for columns.now moment number rows.now) }
+{
+    let mut made = Items::new(alloc);
+    let mut next = number;
+    for row in rows {
+        made.push(row_of(alloc, columns, moment, next, row)?)?;
+        next += 1;
+    }
+    Ok(made)
+}
+
+// A new row.
+fn row_of(
+    alloc: Global,
+    columns: &[Column],
+    moment: Moment,
+    number: u64,
+    row: &OpRow,
+) -> Result<Row, AllocError>
+    ensures { IfOk result (λ made. made ≡ row_for columns.now moment number row.now) }
+{
+    Ok(Row {
+        id: RowId(id_of(alloc, number, row)?),
+        number,
+        made: moment,
+        changed: moment,
+        cells: cells_of(alloc, columns, row.cells.as_slice())?,
+    })
+}
+
+// The cells of a new row.
+fn cells_of(alloc: Global, columns: &[Column], members: &[NamedCell]) -> Result<Cells, AllocError>
+    ensures { IfOk result (λ cells. cells ≡ cells_for columns.now members.now) }
+{
+    let mut cells = Cells::new(alloc);
+    for member in members {
+        put_member(alloc, columns, &mut cells, member)?;
+    }
+    Ok(cells)
+}
+
+// Puts what a member makes under its column.
+fn put_member(
+    alloc: Global,
+    columns: &[Column],
+    cells: &mut Cells,
+    member: &NamedCell,
+) -> Result<(), AllocError>
+    ensures { OnOk result (cells.new ≡ with_member_of columns.now cells.old member.now) }
+{
+    let Some(column) = column_named(columns, member.name.as_str()) else {
+        return Ok(());
+    };
+    match cell_of_json(alloc, column, &member.word) {
+        Ok(value) => {
+            cells.set(column.key, value)?;
+            Ok(())
+        }
+        Err(CellFault::Memory) => Err(AllocError),
+        Err(_) => Ok(()),
+    }
+}
+
+/// New columns whose keys are given from `key`.
+pub fn columns_of(alloc: Global, key: u32, columns: &[NewColumn]) -> Result<Columns, AllocError>
+    requires { key + length columns.now < 2 ^ 32 }
+    ensures { IfOk result (λ made. made ≡ columns_for key columns.now) }
+{
+    let mut made = Items::new(alloc);
+    let mut next = key;
+    for column in columns {
+        made.push(column_of(alloc, next, column)?)?;
+        next += 1;
+    }
+    Ok(made)
+}
+
+// A new column.
+fn column_of(alloc: Global, key: u32, column: &NewColumn) -> Result<Column, AllocError>
+    ensures { IfOk result (λ made. made ≡ column_for key column.now) }
+{
+    Ok(Column {
+        key: ColKey(key),
+        name: column.name.duplicate(alloc)?,
+        kind: column.kind,
+        unit: column.unit.duplicate(alloc)?,
+        options: column.options.duplicate(alloc)?,
+        other: None,
+    })
+}

@@ -1,0 +1,55 @@
+// Why a base refuses an operation.
+use sea_cell::{CellFault, Text};
+use std::alloc::AllocError;
+
+/// The numbers of a base that have a last value: 2^62 for the version, the next row number and the number of a log
+/// record, 4,294,967,295 for the others.
+#[derive(Clone, Copy)]
+pub enum Counter {
+    Version,
+    NextRow,
+    NextTable,
+    NextColumn,
+    NextLink,
+    Lsn,
+}
+
+/// Why a base refuses an operation. Each variant but Memory has its place in one order, and the first that holds
+/// anywhere in the operation is the answer, with its first place there.
+#[derive(Drop)]
+pub enum OpRefusal {
+    /// Memory ran out.
+    Memory,
+    /// The operation has no form.
+    BadOperation,
+    /// The operation would raise a number above its last value.
+    NumbersSpent { counter: Counter },
+    /// The base has no table of this name.
+    NoTable { name: Text },
+    /// The table has no column of this name.
+    NoColumn { name: Text },
+    /// A name that is none: empty, above 64 bytes, with a control character or a backquote, or with `_` in front. Or
+    /// a row's id that isn't 1 to 22 letters, digits, `_` and `-`.
+    BadName { name: Text },
+    /// A name that is in use, or stands twice in the operation.
+    NameTaken { name: Text },
+    /// The column takes no such cell.
+    BadCell { column: Text, fault: CellFault },
+    /// A row's id that is in use in its table, or stands twice in the operation.
+    DuplicateRow { id: Text },
+    /// The operation, or the base after it, passes a limit.
+    TooMany { limit: u32 },
+    /// A row of the operation has an encoding above 8,192 bytes, or none, for which `bytes` is 2^64 - 1.
+    RowTooBig { bytes: u64 },
+}
+
+impl From<AllocError> for OpRefusal {
+    ghost use Rattle.std.specs.Prelude.{◌≡◌};
+    ghost use Rattle.sea_plain.specs.declared.refusal.OpRefusal.TheVariants.{Memory};
+
+    ghost from_gives = { λ _ refusal. refusal ≡ Memory };
+
+    fn from(_error: AllocError) -> OpRefusal {
+        OpRefusal::Memory
+    }
+}
