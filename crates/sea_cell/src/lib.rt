@@ -12,6 +12,8 @@ mod keys;
 mod layout;
 mod selection;
 mod sizes;
+#[cfg(test)]
+mod tests;
 mod text_type;
 mod values;
 mod words;

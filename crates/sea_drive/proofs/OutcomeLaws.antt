@@ -1,15 +1,14 @@
 -- What a line comes to, by the tests that it meets.
-use Rattle.std.proofs.Common.{◌≡◌, ℕ, ◌==◌, List, true, false, refl, codes, inl, inr}
+use Rattle.std.proofs.Common.{◌≡◌, ℕ, ◌==◌, List, true, false, refl, codes, inl, inr, subst}
 use Rattle.std.specs.List.{list_any, before_first, after_first}
 use Rattle.std.specs.Str.{bytes_eq, is_utf8, IsUtf8}
 use Rattle.std.proofs.lemmas.Bool.{cases_Bool}
 use Rattle.std.proofs.lemmas.Str.{IsUtf8-from_is_utf8}
 use Rattle.sea_cell.specs.declared.keys.Moment.{Moment}
 use Rattle.sea_plain.specs.declared.base.Plain.{Plain}
-use Rattle.sea_drive.specs.declared.outcome.LineOutcome.{LineOutcome}
 use Rattle.sea_drive.specs.declared.outcome.LineOutcome.TheVariants.{Silent, BadLine, NotYet}
 use Rattle.sea_drive.specs.Operations.{op_of}
-use Rattle.sea_drive.specs.Outcome.{other_words, is_silent, op_step, sql_outcome, word_step, text_step}
+use Rattle.sea_drive.specs.Outcome.{other_words, is_silent, op_step, sql_outcome, word_step, text_step, takes_memory, text_takes_memory}
 use Rattle.sea_drive.specs.Select.{select_of}
 
 module _ (base : Plain) (moment : Moment) (word rest : List ℕ) where
@@ -34,6 +33,10 @@ module _ (base : Plain) (moment : Moment) (text : List ℕ) where
 
   pub text-words : is_silent text ≡ false → is_utf8 text ≡ true → text_step base moment text ≡ word_step base moment (before_first (λ byte. byte == 32) text) (after_first (λ byte. byte == 32) text)
   text-words silent utf8 = rw (silent, utf8) refl
+
+-- a text takes memory where its word does
+pub text-takes : (text word : List ℕ) → is_silent text ≡ false → is_utf8 text ≡ true → word ≡ before_first (λ byte. byte == 32) text → takes_memory word ≡ true → text_takes_memory text ≡ true
+text-takes text word silent utf8 same takes = rw (silent, utf8) (subst (λ (w : List ℕ). takes_memory w ≡ true) same takes)
 
 -- bytes that are no UTF-8
 pub utf8-false : (bytes : List ℕ) → ¬ IsUtf8 bytes → is_utf8 bytes ≡ false

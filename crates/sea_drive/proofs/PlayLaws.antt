@@ -1,6 +1,5 @@
 -- One turn of a played script after another.
-use Rattle.std.proofs.Common.{◌≡◌, ◌≢◌, ℕ, ◌≤◌, ◌+◌, ◌-◌, drop, length-append, ℤ, List, [], ◌∷◌, ◌++◌, length, take, flat_map, All, Bool, true, false, ◌||◌, cond, Option, Some, None, option_map, IfSome, is_none, refl, sym, ap, subst, ◌∙◌, append_assoc, append-nil, inl, inr, arith}
-use Rattle.std.specs.List.{list_any}
+use Rattle.std.proofs.Common.{◌≡◌, ℕ, ◌≤◌, ◌+◌, ◌-◌, drop, length-append, ℤ, List, [], ◌∷◌, ◌++◌, length, take, Bool, true, false, ◌||◌, Option, Some, None, option_map, IfSome, is_none, refl, sym, ap, subst, ◌∙◌, append_assoc, append-nil, inl, inr, arith}
 use Rattle.std.specs.Io.KnownBytes.{Appends, IsAtEnd}
 use Rattle.std.proofs.lemmas.Grind.{flat_map-append}
 use Rattle.std.proofs.lemmas.List.{length-take}
@@ -8,10 +7,10 @@ use Rattle.std.proofs.lemmas.List.Elements.{All-append, All-nil, All-from_recurs
 use Rattle.std.proofs.lemmas.List.Folds.{list_any-append}
 use Rattle.sea_plain.specs.Base.{empty_base}
 use Rattle.sea_plain.specs.declared.base.Plain.{Plain}
-use Rattle.sea_drive.specs.Lines.{Place, lines_of, line_limit, input_limit, IsWithinLimits, PassesLimit, HasRead, HasReadTold, HasReadTo, ReadsTold, ReadsLine, TotalTold, KeepsTotal, TakesWithin}
+use Rattle.sea_drive.specs.Lines.{Place, lines_of, line_limit, input_limit, PassesLimit, HasRead, HasReadTold, HasReadTo, ReadsTold, ReadsLine, TotalTold, KeepsTotal, TakesWithin}
 use Rattle.sea_drive.specs.Reader.{unread}
 use Rattle.sea_drive.specs.declared.lines.LineReader.{LineReader}
-use Rattle.sea_drive.specs.Play.{replies, met_want, Script, IsPlayed, IsWritten, IsCut, IsFinished, IsTooLong, SaysOf, Ends, Goes, Turns, WritesPiece, PlaysOn, end_status, fault_status}
+use Rattle.sea_drive.specs.Play.{replies, met_want, Script, IsPlayed, IsCut, IsFinished, SaysOf, Ends, Goes, Turns, WritesPiece, PlaysOn, end_status, fault_status}
 use Rattle.sea_drive.specs.Reply.{reply_line}
 use Rattle.sea_drive.specs.Run.{Step, Run}
 use Rattle.sea_drive.specs.declared.outcome.LineOutcome.{LineOutcome}

@@ -1,5 +1,5 @@
 -- Steps of a script.
-use Rattle.std.proofs.Common.{◌≡◌, ℤ, pos, Option, Some, None, Result, Ok, Err, IfOk, MatchResult, refl, sym, ap, ◌∙◌}
+use Rattle.std.proofs.Common.{◌≡◌, ℤ, pos, Option, Some, None, Result, Ok, Err, IfOk, MatchResult, refl, ◌∙◌}
 use Rattle.std.specs.Result.{result_ok}
 use Rattle.std.specs.declared.alloc.AllocError.{AllocError}
 use Rattle.sea_edge.specs.Minutes.{Tells}

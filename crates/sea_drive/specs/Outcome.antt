@@ -1,5 +1,5 @@
 -- What a line of a script does to a base, and what comes of it.
-use Rattle.std.specs.Prelude.{ℕ, ◌==◌, ◌||◌, List, [], ◌∷◌, length, slice_index, Bool, if◌then◌else◌, is_some, Option, Some, None, Result, Ok, Err, codes}
+use Rattle.std.specs.Prelude.{ℕ, ◌==◌, ◌||◌, List, [], ◌∷◌, length, slice_index, Bool, false, if◌then◌else◌, is_some, Option, Some, None, Result, Ok, Err, codes}
 use Rattle.std.specs.List.{list_any, before_first, after_first}
 use Rattle.std.specs.Str.{bytes_eq, is_utf8}
 use Rattle.sea_cell.specs.declared.keys.Moment.{Moment}
@@ -69,6 +69,20 @@ abbrev pub text_step : Plain → Moment → List ℕ → LineOutcome × Plain
 text_step base moment text =
     if is_silent text then (Silent, base)
     else (if is_utf8 text then word_step base moment (before_first (λ byte. byte == 32) text) (after_first (λ byte. byte == 32) text) else (BadLine, base))
+
+-- the words of the lines that take memory
+abbrev pub takes_memory : List ℕ → Bool
+takes_memory word = bytes_eq (codes "op") word || bytes_eq (codes "sql") word
+
+-- a line without its carriage return that asks for a reply and has one of these words: no other meets want of memory
+abbrev pub text_takes_memory : List ℕ → Bool
+text_takes_memory text =
+    if is_silent text then false
+    else (if is_utf8 text then takes_memory (before_first (λ byte. byte == 32) text) else false)
+
+-- the same of a line
+unfoldable pub line_takes_memory : List ℕ → Bool
+line_takes_memory line = text_takes_memory (without_return line)
 
 -- the outcome of a line, and the base after it
 unfoldable pub line_step : Plain → Moment → List ℕ → LineOutcome × Plain

@@ -1,5 +1,5 @@
 -- What a played script writes, and where it ends.
-use Rattle.std.specs.Prelude.{◌≡◌, ◌⊎◌, ℕ, ◌≤◌, ℤ, List, [], ◌∷◌, ◌++◌, length, take, flat_map, All, Bool, true, false, ◌||◌, if◌then◌else◌, is_none, Option, Some, None, IfSome}
+use Rattle.std.specs.Prelude.{◌≡◌, ◌⊎◌, ℕ, ◌≤◌, ℤ, List, [], ◌++◌, length, take, flat_map, All, Bool, true, false, ◌||◌, if◌then◌else◌, is_none, Option, Some, None, IfSome}
 use Rattle.std.specs.List.{list_any}
 use Rattle.std.specs.Io.KnownBytes.{Appends, IsAtEnd}
 use Rattle.sea_edge.specs.Faults.{Rose}

@@ -1,10 +1,10 @@
 -- The words of a command line.
-use Rattle.std.specs.Prelude.{◌≡◌, ◌⊎◌, ℕ, ◌≤◌, ℤ, List, [], ◌∷◌, take, length, Bool, true, false, if◌then◌else◌, is_some, Option, Some, None, codes}
+use Rattle.std.specs.Prelude.{ℕ, ℤ, List, [], ◌∷◌, take, Bool, true, false, if◌then◌else◌, is_some, Option, Some, None, codes}
 use Rattle.std.specs.Io.KnownBytes.{Appends}
 use Rattle.std.specs.Str.{bytes_eq}
 use Rattle.sea_drive.specs.Play.{Ends}
 use Rattle.sea_drive.specs.declared.ending.Status.{Status}
-use Rattle.sea_drive.specs.declared.ending.Status.TheVariants.{Done, Usage, SourceFault, SinkFault, Memory, TooLong}
+use Rattle.sea_drive.specs.declared.ending.Status.TheVariants.{Usage, SinkFault}
 
 -- the folder that the words of a command name: so far `play FOLDER` is the one command
 abbrev pub folder_in : List (List ℕ) → Option (List ℕ)

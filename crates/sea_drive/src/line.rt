@@ -1,11 +1,11 @@
 // Playing one line.
-ghost use Rattle.std.specs.Prelude.{◌≡◌, ◌==◌, ℕ, List, Some, None, MatchResult, IfOk};
+ghost use Rattle.std.specs.Prelude.{◌≡◌, ◌==◌, ℕ, List, Some, None, true, MatchResult, IfOk, OnErr};
 ghost use Rattle.std.specs.List.{list_any, before_first, after_first};
 ghost use Rattle.std.specs.Result.{result_ok};
 ghost use Rattle.std.specs.Str.{bytes_eq};
 ghost use Rattle.sea_edge.specs.Minutes.{Tells};
 ghost use Rattle.sea_drive.specs.Operations.{op_of};
-ghost use Rattle.sea_drive.specs.Outcome.{other_words, is_silent as is_silent_of, lacks_table as lacks_table_of, op_step, sql_outcome, word_step, text_step};
+ghost use Rattle.sea_drive.specs.Outcome.{other_words, is_silent as is_silent_of, lacks_table as lacks_table_of, op_step, sql_outcome, word_step, text_step, takes_memory, text_takes_memory};
 ghost use Rattle.sea_drive.specs.Run.{Step, StepsBy};
 ghost use Rattle.sea_drive.specs.Select.{select_of};
 
@@ -39,8 +39,9 @@ const OTHER_WORDS: [&str; 17] = [
     "reopen",
 ];
 
-/// Plays a line on a base: what comes of it, or None for want of memory, which leaves the base as it was.
-#[tactic(auto, unfolding(crate::specs::Outcome::line_step))]
+/// Plays a line on a base: what comes of it, or None for want of memory, which leaves the base as it was and comes
+/// only of a line whose word is `op` or `sql`.
+#[tactic(auto, unfolding(crate::specs::Outcome::line_step, crate::specs::Outcome::line_takes_memory))]
 pub fn play_line<C: Clock>(
     alloc: Global,
     base: &mut Plain,
@@ -64,6 +65,7 @@ fn play_text<C: Clock>(
     text: &[u8],
 ) -> Result<LineOutcome, AllocError>
     ensures step { StepsBy (C.told clock.old) (λ moment. text_step base.old moment text.now) base.old (result_ok result) base.new }
+    ensures memory { OnErr result (text_takes_memory text.now ≡ true) }
     ensures clock { C.told clock.new ≡ C.told clock.old }
 {
     if is_silent(text) {
@@ -103,6 +105,7 @@ fn play_words<C: Clock>(
     rest: &str,
 ) -> Result<LineOutcome, AllocError>
     ensures step { StepsBy (C.told clock.old) (λ moment. word_step base.old moment word.now rest.now) base.old (result_ok result) base.new }
+    ensures memory { OnErr result (takes_memory word.now ≡ true) }
     ensures clock { C.told clock.new ≡ C.told clock.old }
 {
     if "op" == word {

@@ -1,7 +1,7 @@
 -- Why a base refuses an operation: the first refusal that holds, in one order, with its first place in the operation.
 -- Places go by the operation's text with the members of each object in byte order, so an insert_table's columns
 -- stand before its table.
-use Rattle.std.specs.Prelude.{ℕ, ◌+◌, ◌-◌, ◌^◌, List, [], ◌∷◌, length, map, nat_lt, is_some, if◌then◌else◌, Option, Some, None, option_map, option_and_then, Result, Ok, Err}
+use Rattle.std.specs.Prelude.{ℕ, ◌+◌, ◌^◌, List, [], ◌∷◌, length, map, nat_lt, is_some, if◌then◌else◌, Option, Some, None, option_map, option_and_then, Result, Ok, Err}
 use Rattle.std.specs.Option.{option_map_or}
 use Rattle.sea_cell.specs.Conversion.{cell_of}
 use Rattle.sea_cell.specs.Sizes.{row_bytes_of}

@@ -1,5 +1,5 @@
 -- The rows and columns that an operation makes.
-use Rattle.std.specs.Prelude.{ℕ, ◌+◌, List, [], ◌∷◌, ◌++◌, fold, decimal, Option, Some, None, Result, Ok, Err, unwrap_or}
+use Rattle.std.specs.Prelude.{ℕ, ◌+◌, List, [], ◌∷◌, fold, decimal, Option, Some, None, Result, Ok, Err, unwrap_or}
 use Rattle.sea_cell.specs.Cells.{with_cell}
 use Rattle.sea_cell.specs.Conversion.{cell_of}
 use Rattle.sea_cell.specs.declared.keys.ColKey.{ColKey}

@@ -13,6 +13,8 @@ mod made;
 mod names;
 mod operation;
 mod refusal;
+#[cfg(test)]
+mod tests;
 
 pub use apply::{apply_plain, run_plain};
 pub use base::{LinkPair, LinkPairs, Plain, PlainTable, PlainTables};

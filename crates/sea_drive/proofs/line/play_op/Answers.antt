@@ -1,7 +1,5 @@
-use Rattle.std.proofs.Common.{Option, ap, sym, ◌∙◌}
-use Rattle.sea_plain.specs.declared.operation.Op.{Op}
+use Rattle.std.proofs.Common.{ap, sym, ◌∙◌}
 use Rattle.sea_drive.specs.declared.outcome.LineOutcome.TheVariants.{NotYet}
-use Rattle.sea_drive.specs.Operations.{op_of}
 use Rattle.sea_drive.specs.Outcome.{op_step}
 use Rattle.sea_drive.proofs.RunLaws.{unmoved, moved, same_steps}
 use Rattle.sea_drive.proofs.line.play_op.Goals as goal

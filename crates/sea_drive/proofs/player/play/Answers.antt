@@ -1,4 +1,4 @@
-use Rattle.std.proofs.Common.{ap, sym, ◌∙◌, refl, arith}
+use Rattle.std.proofs.Common.{refl, arith}
 use Rattle.sea_drive.specs.Lines.{Place}
 use Rattle.sea_drive.specs.Reader.{place_of, unread}
 use Rattle.sea_drive.proofs.PlayLaws.{goes_first, ends_first, nothing_unread, total_first, total_then, takes_none, takes_within, length_unread}

@@ -1,4 +1,4 @@
-use Rattle.std.proofs.Common.{◌≡◌, ◌≤◌, length, Option, Err, ap, sym, subst, arith}
+use Rattle.std.proofs.Common.{◌≤◌, length, Err, ap, sym, subst, arith}
 use Rattle.sea_drive.specs.Lines.{line_limit}
 use Rattle.sea_drive.specs.Play.{Ends}
 use Rattle.sea_drive.specs.Reader.{place_of, unread}

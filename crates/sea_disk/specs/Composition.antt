@@ -1,0 +1,98 @@
+-- What several calls do follows from what each does. Crates above cite these, and reason about no image by themselves.
+use Rattle.std.specs.Prelude.{◌≢◌, ◌⊎◌, ℕ, List}
+use Rattle.std.proofs.Common.{inl, inr, ◌∙◌, arith}
+use Rattle.sea_disk.specs.declared.file.File.{File}
+use Rattle.sea_disk.specs.Shown.{Files, Shown, IsImage, IsDisk}
+use Rattle.sea_disk.specs.Calls.{After, OthersStay, Turns, Rests}
+use Rattle.sea_disk.specs.Runs.{Leaves, AtFile, Works}
+
+-- ---- the files that a call leaves alone
+
+pub others_then : {file : File} {old mid new : Shown} → OthersStay file old mid → OthersStay file mid new → OthersStay file old new
+others_then first second = record {
+  seen = λ other differs. second.seen other differs ∙ first.seen other differs;
+  image = λ other bytes differs now. first.image other bytes differs (second.image other bytes differs now);
+  kept = λ other bytes differs before. second.kept other bytes differs (first.kept other bytes differs before);
+}
+
+-- a call that writes nothing leaves every file alone
+pub rests_others : {old new : Shown} (file : File) → Rests old new → OthersStay file old new
+rests_others file rests = record {
+  seen = λ other _. rests.seen other;
+  image = λ other bytes _ now. rests.image other bytes now;
+  kept = λ other bytes _ before. rests.kept other bytes before;
+}
+
+-- ---- runs of calls, seen as a whole
+
+-- what is left has each weaker property
+pub leaves_weaker : {old new : Shown} {P Q : Files → Type 0} → Leaves old new P → ((files : Files) → P files → Q files) → Leaves old new Q
+leaves_weaker leaves weaker = record {
+  later = leaves.later;
+  each = λ files now. weaker files (leaves.each files now);
+  before = λ moment files early now. elim (leaves.before moment files early now) [ inl was ↦ inl was | inr has ↦ inr (weaker files has) ];
+}
+
+-- one run after another
+pub leaves_then : {old mid new : Shown} {P : Files → Type 0} → Leaves old mid P → Leaves mid new P → Leaves old new P
+leaves_then {old = old} {mid = mid} first second = record {
+  later = omega (arith, first.later, second.later);
+  each = λ files now. elim (second.before old.moment files first.later now) [ inl was ↦ first.each files was | inr has ↦ has ];
+  before = λ moment files early now. elim (second.before moment files (omega (arith, early, first.later)) now) [ inl was ↦ first.before moment files early was | inr has ↦ inr has ];
+}
+
+-- a call that writes nothing leaves only images that the disk had
+pub rests_leaves : {old new : Shown} → IsDisk old → Rests old new → Leaves old new (IsImage old)
+rests_leaves {old = old} disk rests = record {
+  later = rests.later;
+  each = λ files now. disk.only_now files (rests.since old.moment files (omega arith) now);
+  before = λ moment files early now. inl (rests.since moment files early now);
+}
+
+-- ---- runs of calls on one file
+
+-- one writing call
+pub turns_works : {file : File} {step : List ℕ → List ℕ → Type 0} {old new : Shown} → IsDisk old → Turns file step old new → Works file (λ bytes. old.image file bytes ⊎ After file step old bytes) old new
+turns_works {file = file} {step = step} {old = old} {new = new} disk turns = record {
+  leaves = record {
+    later = turns.time.later;
+    each = λ files now. elim (turns.time.nothing_else old.moment files (omega arith) now) [ inl was ↦ before files (disk.only_now files was) | inr image ↦ after files image ];
+    before = λ moment files early now. elim (turns.time.nothing_else moment files early now) [ inl was ↦ inl was | inr image ↦ inr (after files image) ];
+  };
+  now = λ bytes image. inr (turns.follows bytes image);
+  others = turns.others;
+}
+  where
+    before : (files : Files) → IsImage old files → AtFile file (λ bytes. old.image file bytes ⊎ After file step old bytes) old files
+    before files image = record { here = inl (image file); others = λ other _. image other }
+
+    after : (files : Files) → IsImage new files → AtFile file (λ bytes. old.image file bytes ⊎ After file step old bytes) old files
+    after files image = record { here = inr (turns.follows (files file) (image file)); others = λ other differs. turns.others.image other (files other) differs (image other) }
+
+-- a weaker property of the file
+pub works_weaker : {file : File} {P Q : List ℕ → Type 0} {old new : Shown} → Works file P old new → ((bytes : List ℕ) → P bytes → Q bytes) → Works file Q old new
+works_weaker works weaker = record {
+  leaves = leaves_weaker works.leaves (λ files at. record { here = weaker (files _) at.here; others = at.others });
+  now = λ bytes image. weaker bytes (works.now bytes image);
+  others = works.others;
+}
+
+-- one run on a file after another on the same file
+pub works_then : {file : File} {P : List ℕ → Type 0} {old mid new : Shown} → Works file P old mid → Works file P mid new → Works file P old new
+works_then first second = record {
+  leaves = leaves_then first.leaves (leaves_weaker second.leaves (λ files at. record { here = at.here; others = λ other differs. first.others.image other (files other) differs (at.others other differs) }));
+  now = second.now;
+  others = others_then first.others second.others;
+}
+
+-- a call that writes nothing, after a run on a file
+pub works_rests : {file : File} {P : List ℕ → Type 0} {old mid new : Shown} → IsDisk mid → Works file P old mid → Rests mid new → Works file P old new
+works_rests {file = file} disk works rests = record {
+  leaves = leaves_then works.leaves (leaves_weaker (rests_leaves disk rests) (λ files image. record { here = works.now (files file) (image file); others = λ other differs. works.others.image other (files other) differs (image other) }));
+  now = λ bytes image. works.now bytes (rests.image file bytes image);
+  others = others_then works.others (rests_others file rests);
+}
+
+-- what a run on one file says of the whole disk
+pub works_leaves : {file : File} {P : List ℕ → Type 0} {Q : Files → Type 0} {old new : Shown} → Works file P old new → ((files : Files) → P (files file) → ((other : File) → other ≢ file → old.image other (files other)) → Q files) → Leaves old new Q
+works_leaves works gives = leaves_weaker works.leaves (λ files at. gives files at.here at.others)

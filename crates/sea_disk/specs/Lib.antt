@@ -1,0 +1,5 @@
+pub mod Calls
+pub mod Composition
+pub mod Runs
+pub mod Shown
+pub mod Untold

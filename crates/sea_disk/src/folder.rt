@@ -1,0 +1,141 @@
+// A disk over a folder of the system.
+ghost use Rattle.std.specs.Prelude.{◌≡◌, ◌≤◌, ◌+◌, min};
+ghost use Rattle.sea_disk.specs.Calls.{last_count};
+ghost use Rattle.sea_disk.specs.Untold.{untold, untold_is_disk};
+
+use crate::disk::{Disk, Failed};
+use crate::file::File;
+use std::alloc::Global;
+use std::fs::{File as OpenFile, OpenOptions};
+use std::io;
+use std::os::unix::fs::FileExt;
+use std::rt::Files;
+
+/// The files `base0`, `base1`, `log0`, `log1` and `arch` of a folder, opened once and kept open. It tells no content:
+/// that the folder behaves as a disk is not proved.
+#[derive(Drop)]
+pub struct FolderDisk {
+    base0: OpenFile,
+    base1: OpenFile,
+    log0: OpenFile,
+    log1: OpenFile,
+    arch: OpenFile,
+    /// How many calls failed, and how many of them were writing calls. The counts stand still at `u64::MAX`.
+    failed: u64,
+    failed_writes: u64,
+}
+
+impl FolderDisk {
+    /// Opens the five files of a folder, and makes those that are absent.
+    pub fn open<R: Files<File = OpenFile>>(
+        rt: &R,
+        alloc: Global,
+        folder: &str,
+    ) -> io::Result<FolderDisk> {
+        Ok(FolderDisk {
+            base0: open_file(rt, alloc, folder, "base0")?,
+            base1: open_file(rt, alloc, folder, "base1")?,
+            log0: open_file(rt, alloc, folder, "log0")?,
+            log1: open_file(rt, alloc, folder, "log1")?,
+            arch: open_file(rt, alloc, folder, "arch")?,
+            failed: 0,
+            failed_writes: 0,
+        })
+    }
+
+    fn file(&self, file: File) -> &OpenFile {
+        match file {
+            File::Base0 => &self.base0,
+            File::Base1 => &self.base1,
+            File::Log0 => &self.log0,
+            File::Log1 => &self.log1,
+            File::Arch => &self.arch,
+        }
+    }
+
+    // Counts a failed call that writes nothing.
+    fn read_fault(&mut self) -> Failed
+        ensures failed { self.new.failed ≡ min (self.old.failed + 1) last_count }
+        ensures failed_writes { self.new.failed_writes ≡ self.old.failed_writes }
+        ensures later { self.old.failed ≤ self.new.failed }
+    {
+        self.failed = self.failed.saturating_add(1);
+        Failed
+    }
+
+    // Counts a failed writing call.
+    fn write_fault(&mut self) -> Failed
+        ensures failed { self.new.failed ≡ min (self.old.failed + 1) last_count }
+        ensures failed_writes { self.new.failed_writes ≡ min (self.old.failed_writes + 1) last_count }
+        ensures later { self.old.failed ≤ self.new.failed }
+        ensures later_writes { self.old.failed_writes ≤ self.new.failed_writes }
+    {
+        self.failed = self.failed.saturating_add(1);
+        self.failed_writes = self.failed_writes.saturating_add(1);
+        Failed
+    }
+}
+
+// A file of the folder, for reading and writing.
+fn open_file<R: Files<File = OpenFile>>(
+    rt: &R,
+    alloc: Global,
+    folder: &str,
+    name: &str,
+) -> io::Result<OpenFile> {
+    let path = format!(in alloc; "{folder}/{name}")?;
+    let mut options = OpenOptions::new();
+    options.read(true).write(true).create(true);
+    options.open(rt, path.as_str())
+}
+
+impl Disk for FolderDisk {
+    ghost told = { ⊥ };
+
+    ghost shows = { λ _. untold };
+
+    ghost faults = { λ disk. disk.failed };
+
+    ghost failed = { λ disk. disk.failed_writes };
+
+    fn size(&mut self, file: File) -> Result<u64, Failed> {
+        match self.file(file).metadata() {
+            Ok(metadata) => Ok(metadata.len()),
+            Err(_) => Err(self.read_fault()),
+        }
+    }
+
+    fn read(&mut self, file: File, at: u64, into: &mut [u8]) -> Result<(), Failed> {
+        match self.file(file).read_exact_at(into, at) {
+            Ok(()) => Ok(()),
+            Err(_) => Err(self.read_fault()),
+        }
+    }
+
+    fn write_at(&mut self, file: File, at: u64, bytes: &[u8]) -> Result<(), Failed> {
+        match self.file(file).write_all_at(bytes, at) {
+            Ok(()) => Ok(()),
+            Err(_) => Err(self.write_fault()),
+        }
+    }
+
+    fn cut(&mut self, file: File, len: u64) -> Result<(), Failed> {
+        match self.file(file).set_len(len) {
+            Ok(()) => Ok(()),
+            Err(_) => Err(self.write_fault()),
+        }
+    }
+
+    fn sync(&mut self, file: File) -> Result<(), Failed> {
+        match self.file(file).sync_data() {
+            Ok(()) => Ok(()),
+            Err(_) => Err(self.write_fault()),
+        }
+    }
+
+    fn faults(&self) -> u64 {
+        self.failed
+    }
+
+    ghost sound = { λ _. untold_is_disk };
+}
