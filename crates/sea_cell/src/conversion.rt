@@ -85,7 +85,7 @@ fn text_within(alloc: Global, limit: usize, text: &Text) -> Result<CellValue, Ce
     Ok(CellValue::Text(Text::copy_of(alloc, text)?))
 }
 
-/// A cell as JSON: a text as a string, an empty cell as null. No cell of another kind can be made yet.
+/// A cell as JSON: a text as a string, an empty cell as null. `cell_of_json` makes no cell of another kind yet.
 pub fn json_of_cell(alloc: Global, cell: &CellValue) -> Result<Value, AllocError>
     ensures { IfOk result (λ json. view json ≡ json_of cell.now) }
 {

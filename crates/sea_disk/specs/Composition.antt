@@ -1,9 +1,9 @@
 -- What several calls do follows from what each does. Crates above cite these, and reason about no image by themselves.
-use Rattle.std.specs.Prelude.{◌≢◌, ◌⊎◌, ℕ, List}
-use Rattle.std.proofs.Common.{inl, inr, ◌∙◌, arith}
+use Rattle.std.specs.Prelude.{◌≡◌, ◌≢◌, ◌⊎◌, ℕ, List}
+use Rattle.std.proofs.Common.{inl, inr, refl, subst, sym, ◌∙◌, arith}
 use Rattle.sea_disk.specs.declared.file.File.{File}
 use Rattle.sea_disk.specs.Shown.{Files, Shown, IsImage, IsDisk}
-use Rattle.sea_disk.specs.Calls.{After, OthersStay, Turns, Rests}
+use Rattle.sea_disk.specs.Calls.{Torn, Cut, After, OthersStay, Turns, Rests}
 use Rattle.sea_disk.specs.Runs.{Leaves, AtFile, Works}
 
 -- ---- the files that a call leaves alone
@@ -77,6 +77,20 @@ works_weaker works weaker = record {
   others = works.others;
 }
 
+-- one write, which a stop may also have left undone
+pub write_works : {file : File} {at n : ℕ} {old new : Shown} → IsDisk old → Turns file (Torn at n) old new → Works file (After file (Torn at n) old) old new
+write_works {at = at} {n = n} disk turns = works_weaker (turns_works disk turns) (λ bytes may. elim may [ inl was ↦ (bytes, was, torn_stays at n bytes) | inr after ↦ after ])
+  where
+    torn_stays : (at n : ℕ) (bytes : List ℕ) → Torn at n bytes bytes
+    torn_stays at n bytes = record { no_shorter = omega arith; no_longer = omega arith; before = λ m _ _. refl; after = refl }
+
+-- one cut, which a stop may also have left undone
+pub cut_works : {file : File} {len : ℕ} {old new : Shown} → IsDisk old → Turns file (Cut len) old new → Works file (After file (Cut len) old) old new
+cut_works {len = len} disk turns = works_weaker (turns_works disk turns) (λ bytes may. elim may [ inl was ↦ (bytes, was, cut_stays len bytes) | inr after ↦ after ])
+  where
+    cut_stays : (len : ℕ) (bytes : List ℕ) → Cut len bytes bytes
+    cut_stays len bytes = record { no_shorter = omega arith; no_longer = omega arith; before = λ m _ _. refl }
+
 -- one run on a file after another on the same file
 pub works_then : {file : File} {P : List ℕ → Type 0} {old mid new : Shown} → Works file P old mid → Works file P mid new → Works file P old new
 works_then first second = record {
@@ -84,6 +98,14 @@ works_then first second = record {
   now = second.now;
   others = others_then first.others second.others;
 }
+
+-- a sync, after a run on the same file
+pub works_synced : {file : File} {P : List ℕ → Type 0} {old mid new : Shown} → IsDisk mid → Works file P old mid → Turns file (λ was now. now ≡ was) mid new → Works file P old new
+works_synced {file = file} {P = P} {mid = mid} disk works turns = works_then works (works_weaker (turns_works disk turns) (λ bytes may. works.now bytes (same bytes may)))
+  where
+    same : (bytes : List ℕ) → mid.image file bytes ⊎ After file (λ was now. now ≡ was) mid bytes → mid.image file bytes
+    same bytes (inl image) = image
+    same bytes (inr (before, image, e)) = subst (λ now. mid.image file now) (sym e) image
 
 -- a call that writes nothing, after a run on a file
 pub works_rests : {file : File} {P : List ℕ → Type 0} {old mid new : Shown} → IsDisk mid → Works file P old mid → Rests mid new → Works file P old new

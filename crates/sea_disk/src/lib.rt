@@ -11,8 +11,10 @@ mod folder;
 mod fuse;
 #[cfg(test)]
 mod tests;
+mod through;
 
 pub use disk::{Disk, Failed};
 pub use file::File;
 pub use folder::FolderDisk;
 pub use fuse::Fuse;
+pub use through::{cut_through, write_through};

@@ -1,4 +1,4 @@
-use crate::{Disk, Failed, File, FolderDisk, Fuse};
+use crate::{Disk, Failed, File, FolderDisk, Fuse, cut_through, write_through};
 use std::fs;
 use std::test::Fail;
 
@@ -49,5 +49,22 @@ fn a_fuse_passes_so_many_calls_on(rt: HostRuntime) -> Result<(), Fail> {
     let mut disk = fuse.into_disk();
     assert_eq!(rt; four_at(&mut disk, File::Base1, 0), Ok(*b"here"));
     assert_eq!(rt; disk.faults(), 0);
+    Ok(())
+}
+
+#[test]
+fn a_write_and_a_cut_are_made_safe(rt: HostRuntime) -> Result<(), Fail> {
+    fs::create_dir_all(&rt, "through")?;
+    let disk = FolderDisk::open(&rt, rt.alloc(), "through")?;
+    let mut fuse = Fuse::over(disk, 6);
+    assert_eq!(rt; write_through(&mut fuse, File::Log1, 1, b"abcd"), Ok(()));
+    assert_eq!(rt; fuse.size(File::Log1), Ok(5));
+    assert_eq!(rt; cut_through(&mut fuse, File::Log1, 4), Ok(()));
+    assert_eq!(rt; write_through(&mut fuse, File::Log1, 0, b"x"), Err(Failed));
+    assert_eq!(rt; cut_through(&mut fuse, File::Log1, 0), Err(Failed));
+    assert_eq!(rt; fuse.faults(), 2);
+    let mut disk = fuse.into_disk();
+    assert_eq!(rt; disk.size(File::Log1), Ok(4));
+    assert_eq!(rt; four_at(&mut disk, File::Log1, 0), Ok(*b"xabc"));
     Ok(())
 }

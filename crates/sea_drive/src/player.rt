@@ -14,7 +14,7 @@ use sea_plain::Plain;
 use std::alloc::Global;
 
 /// Plays a script on the empty base: each line of the source in turn, with one reply line for each line that asks for
-/// one. The sink has all replies so far whenever the next line is taken.
+/// one.
 pub fn play<S: Source, K: Sink, C: Clock>(
     alloc: Global,
     source: &mut S,

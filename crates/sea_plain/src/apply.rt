@@ -21,8 +21,8 @@ pub fn apply_plain(alloc: Global, base: &Plain, entry: &Entry) -> Result<Plain, 
     Ok(applied(alloc, base, entry.moment, &entry.op)?)
 }
 
-/// The base after all entries, or the first entry that is refused, counted from 0, with its refusal. Want of memory
-/// counts as a refusal of the entry at which it came.
+/// The base after all entries, or the first entry that is refused, counted from 0, with its refusal. Where memory ran
+/// out, the refusal is Memory, and the number says nothing.
 pub fn run_plain(alloc: Global, base: &Plain, entries: &Entries) -> Result<Plain, (u64, OpRefusal)>
     ensures { MatchResult result (λ new. after base.now entries.now ≡ Ok new)
         (λ fault. fault.1 ≢ OpRefusal.Memory → after base.now entries.now ≡ Err fault) }

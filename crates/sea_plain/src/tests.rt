@@ -11,7 +11,7 @@ use std::alloc::{AllocError, Global};
 use std::process::Abort;
 use std::test::Fail;
 
-/// What stands for the base that an accepted operation makes.
+// What stands for the base that an accepted operation makes.
 const DONE: &str = "done";
 
 fn text_member(alloc: Global, json: &Value, name: &str) -> Result<Text, AllocError> {
