@@ -1,5 +1,5 @@
 // A disk over a folder of the system.
-ghost use Rattle.std.specs.Prelude.{◌≡◌, ◌≤◌, ◌+◌, min};
+ghost use Rattle.std.specs.Prelude.{◌≡◌, ◌≤◌, ◌+◌, min, IfOk};
 ghost use Rattle.sea_disk.specs.Calls.{last_count};
 ghost use Rattle.sea_disk.specs.Untold.{untold, untold_is_disk};
 
@@ -26,12 +26,15 @@ pub struct FolderDisk {
 }
 
 impl FolderDisk {
-    /// Opens the five files of a folder, and makes those that are absent.
+    /// Opens the five files of a folder, and makes those that are absent. No call has failed yet.
     pub fn open<R: Files<File = OpenFile>>(
         rt: &R,
         alloc: Global,
         folder: &str,
-    ) -> io::Result<FolderDisk> {
+    ) -> io::Result<FolderDisk>
+        ensures failed { IfOk result (λ disk. disk.failed ≡ 0) }
+        ensures failed_writes { IfOk result (λ disk. disk.failed_writes ≡ 0) }
+    {
         Ok(FolderDisk {
             base0: open_file(rt, alloc, folder, "base0")?,
             base1: open_file(rt, alloc, folder, "base1")?,
