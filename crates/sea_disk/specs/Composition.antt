@@ -118,3 +118,27 @@ works_rests {file = file} disk works rests = record {
 -- what a run on one file says of the whole disk
 pub works_leaves : {file : File} {P : List ℕ → Type 0} {Q : Files → Type 0} {old new : Shown} → Works file P old new → ((files : Files) → P (files file) → ((other : File) → other ≢ file → old.image other (files other)) → Q files) → Leaves old new Q
 works_leaves works gives = leaves_weaker works.leaves (λ files at. gives files at.here at.others)
+
+-- ---- calls that write nothing
+
+-- nothing is done
+pub rests_stay : (disk : Shown) → Rests disk disk
+rests_stay disk = record {
+  seen = λ file. refl;
+  image = λ file bytes image. image;
+  kept = λ file bytes image. image;
+  later = omega arith;
+  since = λ moment files early was. was;
+  keeps = λ moment files early was. was;
+}
+
+-- one call that writes nothing after another
+pub rests_then : {old mid new : Shown} → Rests old mid → Rests mid new → Rests old new
+rests_then first second = record {
+  seen = λ file. second.seen file ∙ first.seen file;
+  image = λ file bytes image. first.image file bytes (second.image file bytes image);
+  kept = λ file bytes image. second.kept file bytes (first.kept file bytes image);
+  later = omega (arith, first.later, second.later);
+  since = λ moment files early now. first.since moment files early (second.since moment files (omega (arith, early, first.later)) now);
+  keeps = λ moment files early was. second.keeps moment files (omega (arith, early, first.later)) (first.keeps moment files early was);
+}

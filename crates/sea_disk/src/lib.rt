@@ -1,14 +1,20 @@
-//! A disk whose unsynced bytes may come out of a stop as anything: the trait, a disk over a folder, and a fuse.
+//! A disk whose unsynced bytes may come out of a stop as anything: the trait, a disk in memory, a disk over a folder, and
+//! a fuse.
 //!
 //! It stands on nothing. The contract that matters to the crates above is that of the trait `Disk`: what a read gives,
 //! and what a stop at any moment since a given one may have left. The definitions `Composition` are a part of it: what
 //! several calls leave follows from what each leaves, and no crate above reasons about images by itself.
 #![tactic(auto)]
 
+mod bytes;
+mod calls;
+mod contents;
 mod disk;
 mod file;
 mod folder;
 mod fuse;
+mod history;
+mod memory;
 #[cfg(test)]
 mod tests;
 mod through;
@@ -17,4 +23,5 @@ pub use disk::{Disk, Failed};
 pub use file::File;
 pub use folder::FolderDisk;
 pub use fuse::Fuse;
+pub use memory::MemDisk;
 pub use through::{cut_through, write_through};

@@ -1,4 +1,5 @@
-use crate::{Disk, Failed, File, FolderDisk, Fuse, cut_through, write_through};
+use crate::{Disk, Failed, File, FolderDisk, Fuse, MemDisk, cut_through, write_through};
+use std::alloc::Global;
 use std::fs;
 use std::test::Fail;
 
@@ -66,5 +67,59 @@ fn a_write_and_a_cut_are_made_safe(rt: HostRuntime) -> Result<(), Fail> {
     let mut disk = fuse.into_disk();
     assert_eq!(rt; disk.size(File::Log1), Ok(4));
     assert_eq!(rt; four_at(&mut disk, File::Log1, 0), Ok(*b"xabc"));
+    Ok(())
+}
+
+// What a stop leaves of a log file by choice.
+fn left(alloc: Global, disk: &MemDisk, choice: u8) -> Result<Vec<u8>, Fail> {
+    let mut image = disk.image(choice)?;
+    let size = image.size(File::Log0)?;
+    let mut bytes = vec![in alloc; 0; size as usize]?;
+    image.read(File::Log0, 0, bytes.as_mut_slice())?;
+    Ok(bytes)
+}
+
+// A log file of which four bytes are safe, and some written and cut off since.
+fn changed(alloc: Global) -> Result<MemDisk, Fail> {
+    let mut disk = MemDisk::blank(alloc)?;
+    write_through(&mut disk, File::Log0, 0, b"abcd")?;
+    disk.write_at(File::Log0, 1, b"XY")?;
+    disk.write_at(File::Log0, 5, b"Z")?;
+    disk.cut(File::Log0, 5)?;
+    Ok(disk)
+}
+
+// A log file of which four bytes are safe, and whose next cut, write and sync fail.
+fn faulty(alloc: Global) -> Result<MemDisk, Fail> {
+    let mut disk = MemDisk::blank(alloc)?;
+    for call in 3..6 {
+        disk.fail(call)?;
+    }
+    write_through(&mut disk, File::Log0, 0, b"safe")?;
+    let _ = disk.cut(File::Log0, 1);
+    let _ = disk.write_at(File::Log0, 3, b"not");
+    let _ = disk.sync(File::Log0);
+    Ok(disk)
+}
+
+#[test]
+fn a_stop_changes_what_no_sync_made_safe(rt: HostRuntime) -> Result<(), Fail> {
+    let table: [&[u8]; 3] = [b"abcd", b"aXYd\0", b"a\x01\x01d\x01\x01"];
+    let disk = changed(rt.alloc())?;
+    assert_eq!(rt; disk.calls(), 5);
+    for (choice, want) in (0..).zip(table) {
+        assert_eq!(rt; left(rt.alloc(), &disk, choice)?.as_slice(), want);
+    }
+    Ok(())
+}
+
+#[test]
+fn a_call_fails_where_it_is_told_to(rt: HostRuntime) -> Result<(), Fail> {
+    let table: [&[u8]; 3] = [b"safe", b"safe", b"s\x01\x01\x01\x01\x01"];
+    let disk = faulty(rt.alloc())?;
+    assert_eq!(rt; (disk.calls(), disk.faults()), (5, 3));
+    for (choice, want) in (0..).zip(table) {
+        assert_eq!(rt; left(rt.alloc(), &disk, choice)?.as_slice(), want);
+    }
     Ok(())
 }

@@ -1,0 +1,4 @@
+pub mod Overlays
+pub mod Before
+pub mod Recorded
+pub mod Images

@@ -1,0 +1,196 @@
+// A disk in memory.
+ghost use Rattle.std.specs.Prelude.{◌≡◌, ◌+◌, ◌≤◌, ◌++◌, ◌∷◌, [], length, take, drop, min, IfOk, OnOk, OnErr};
+ghost use Rattle.sea_disk.specs.declared.file.File.{File};
+ghost use Rattle.sea_disk.specs.Calls.{last_count};
+ghost use Rattle.sea_disk.specs.Shown.{IsImage, IsSettled};
+ghost use Rattle.sea_disk.specs.Traced.{track_of, shown_of, left_by};
+ghost use Rattle.sea_disk.specs.TracedLaws.{shown_is_disk};
+
+use crate::disk::{Disk, Failed};
+use crate::file::File;
+use crate::history::History;
+use sqlite_items::Items;
+use std::alloc::{AllocError, Global};
+
+/// A disk in memory. It tells its content, and keeps its writing calls, so that it knows what a stop may leave. It
+/// fails the calls that it is told to fail, and those for which there is no memory.
+#[derive(Drop)]
+pub struct MemDisk {
+    alloc: Global,
+    /// The files, and the writing calls that made them.
+    pub history: History,
+    /// How many calls were made. The count stands still at `u64::MAX`, as the next two do.
+    pub made: u64,
+    /// How many calls failed.
+    pub failed: u64,
+    /// How many writing calls failed.
+    pub failed_writes: u64,
+    /// The numbers of the calls that are to fail.
+    pub fails: Items<u64>,
+}
+
+impl MemDisk {
+    /// A disk of five empty files that no call was made on.
+    pub fn blank(alloc: Global) -> Result<MemDisk, AllocError>
+        ensures calls { IfOk result (λ disk. disk.history.calls ≡ []) }
+        ensures made { IfOk result (λ disk. disk.made ≡ 0) }
+        ensures faults { IfOk result (λ disk. (disk.failed ≡ 0) × (disk.failed_writes ≡ 0) × (disk.fails ≡ [])) }
+    {
+        Ok(MemDisk::over(alloc, History::new(alloc)))
+    }
+
+    // A disk with these files, as no call found it yet.
+    fn over(alloc: Global, history: History) -> MemDisk
+        ensures history { result.history ≡ history }
+        ensures made { result.made ≡ 0 }
+        ensures faults { (result.failed ≡ 0) × (result.failed_writes ≡ 0) × (result.fails ≡ []) }
+    {
+        MemDisk {
+            alloc,
+            history,
+            made: 0,
+            failed: 0,
+            failed_writes: 0,
+            fails: Items::new(alloc),
+        }
+    }
+
+    /// How many calls were made since `blank` or `image` gave this disk.
+    pub fn calls(&self) -> u64
+        ensures { result ≡ self.now.made }
+    {
+        self.made
+    }
+
+    /// Makes the call of this number fail, where the first call since `blank` or `image` gave this disk has number 1.
+    /// A failed write, cut or sync leaves what reads give as it was.
+    pub fn fail(&mut self, call: u64) -> Result<(), AllocError>
+        ensures ok { OnOk result (self.new ≡ record self.old { fails = self.old.fails ++ call ∷ [] }) }
+        ensures err { OnErr result (self.new ≡ self.old) }
+    {
+        self.fails.push(call)
+    }
+
+    /// What a stop leaves of this disk, by choice: with 0 nothing since each file's last good sync, with 1 everything,
+    /// and with any other number each file's largest size with 1 for each byte that isn't safe. It is then all that a
+    /// stop may leave of the disk that is given.
+    pub fn image(&self, choice: u8) -> Result<MemDisk, AllocError>
+        ensures chosen { IfOk result (λ image. (file : File) → (shown_of image.history.calls).seen file ≡ left_by choice (track_of self.now.history.calls file)) }
+        ensures image { IfOk result (λ image. IsImage (shown_of self.now.history.calls) (shown_of image.history.calls).seen) }
+        ensures settled { IfOk result (λ image. (file : File) → IsSettled (shown_of image.history.calls) file) }
+        ensures made { IfOk result (λ image. image.made ≡ 0) }
+        ensures faults { IfOk result (λ image. (image.failed ≡ 0) × (image.failed_writes ≡ 0) × (image.fails ≡ [])) }
+    {
+        Ok(MemDisk::over(self.alloc, self.history.image(choice)?))
+    }
+
+    // Counts the next call, and tells whether it is to fail.
+    fn next_fails(&mut self) -> bool
+        ensures history { self.new.history ≡ self.old.history }
+        ensures failed { self.new.failed ≡ self.old.failed }
+        ensures failed_writes { self.new.failed_writes ≡ self.old.failed_writes }
+    {
+        self.made = self.made.saturating_add(1);
+        is_listed(self.fails.as_slice(), self.made)
+    }
+
+    // Counts a failed call that writes nothing.
+    fn read_fault(&mut self) -> Failed
+        ensures history { self.new.history ≡ self.old.history }
+        ensures failed { self.new.failed ≡ min (self.old.failed + 1) last_count }
+        ensures failed_writes { self.new.failed_writes ≡ self.old.failed_writes }
+        ensures later { self.old.failed ≤ self.new.failed }
+    {
+        self.failed = self.failed.saturating_add(1);
+        Failed
+    }
+
+    // Counts a failed writing call.
+    fn write_fault(&mut self) -> Failed
+        ensures history { self.new.history ≡ self.old.history }
+        ensures failed { self.new.failed ≡ min (self.old.failed + 1) last_count }
+        ensures failed_writes { self.new.failed_writes ≡ min (self.old.failed_writes + 1) last_count }
+        ensures later { self.old.failed ≤ self.new.failed }
+        ensures later_writes { self.old.failed_writes ≤ self.new.failed_writes }
+    {
+        self.failed = self.failed.saturating_add(1);
+        self.failed_writes = self.failed_writes.saturating_add(1);
+        Failed
+    }
+}
+
+// The number is among those listed.
+fn is_listed(numbers: &[u64], number: u64) -> bool {
+    numbers.contains(&number)
+}
+
+impl Disk for MemDisk {
+    ghost told = { Unit {0} };
+
+    ghost shows = { λ disk. shown_of disk.history.calls };
+
+    ghost faults = { λ disk. disk.failed };
+
+    ghost failed = { λ disk. disk.failed_writes };
+
+    fn size(&mut self, file: File) -> Result<u64, Failed> {
+        if self.next_fails() {
+            return Err(self.read_fault());
+        }
+        Ok(self.history.bytes(file).len() as u64)
+    }
+
+    fn read(&mut self, file: File, at: u64, into: &mut [u8]) -> Result<(), Failed> {
+        if self.next_fails() {
+            return Err(self.read_fault());
+        }
+        place(self.history.bytes(file), at as usize, into);
+        Ok(())
+    }
+
+    fn write_at(&mut self, file: File, at: u64, bytes: &[u8]) -> Result<(), Failed> {
+        if self.next_fails() {
+            self.history.fail_write(file, at, bytes.len());
+            return Err(self.write_fault());
+        }
+        match self.history.write(file, at, bytes) {
+            Ok(()) => Ok(()),
+            Err(_) => Err(self.write_fault()),
+        }
+    }
+
+    fn cut(&mut self, file: File, len: u64) -> Result<(), Failed> {
+        if self.next_fails() {
+            self.history.fail_cut(file, len);
+            return Err(self.write_fault());
+        }
+        match self.history.cut(file, len) {
+            Ok(()) => Ok(()),
+            Err(_) => Err(self.write_fault()),
+        }
+    }
+
+    fn sync(&mut self, file: File) -> Result<(), Failed> {
+        if self.next_fails() {
+            return Err(self.write_fault());
+        }
+        match self.history.sync(file) {
+            Ok(()) => Ok(()),
+            Err(_) => Err(self.write_fault()),
+        }
+    }
+
+    fn faults(&self) -> u64 {
+        self.failed
+    }
+
+    ghost sound = { λ disk. shown_is_disk disk.history.calls };
+}
+
+// Places the bytes from a place on.
+fn place(bytes: &[u8], at: usize, into: &mut [u8])
+    requires { at + length into.old ≤ length bytes.now }
+    ensures { into.new ≡ take (length into.old) (drop at bytes.now) }
+{
+    into.copy_from_slice(&bytes[at..at + into.len()]);
+}
