@@ -1,5 +1,5 @@
 // The files of a disk in memory, with the writing calls that made them.
-ghost use Rattle.std.specs.Prelude.{◌≡◌, ◌++◌, ◌∷◌, [], List, length, take, IfOk, OnOk, OnErr};
+ghost use Rattle.std.specs.Prelude.{◌≡◌, ◌+◌, ◌++◌, ◌∷◌, [], List, length, take, IfOk, OnOk, OnErr};
 ghost use Rattle.sea_disk.specs.declared.file.File.{File};
 ghost use Rattle.sea_disk.specs.Calls.{overlaid, Torn, Cut, Turns};
 ghost use Rattle.sea_disk.specs.Contents.{of_file};
@@ -61,18 +61,19 @@ impl History {
         }
     }
 
-    /// Fails to write so many bytes from a place on. What reads give stays.
-    pub fn fail_write(&mut self, file: File, at: u64, count: usize)
+    /// Fails to write so many bytes from a place on. What reads give stays. Without memory nothing happens.
+    pub fn fail_write(&mut self, file: File, at: u64, count: usize) -> Result<(), AllocError>
+        ensures ok { OnOk result (self.new.calls ≡ with_call self.old.calls file (Act.FailedWrite at (at + count))) }
+        ensures err { OnErr result (self.new.calls ≡ self.old.calls) }
         ensures seen { (shown_of self.new.calls).seen file ≡ (shown_of self.old.calls).seen file }
         ensures turns { Turns file (Torn at count) (shown_of self.old.calls) (shown_of self.new.calls) }
     {
         let Some(to) = at.checked_add(count as u64) else {
-            return;
+            return Err(AllocError);
         };
         let act = Act::FailedWrite { at, to };
-        let Ok(()) = self.calls.push(Call { file, act }) else {
-            return;
-        };
+        self.calls.push(Call { file, act })?;
+        Ok(())
     }
 
     /// Cuts a file to a length. Without memory nothing happens.
@@ -87,15 +88,16 @@ impl History {
         Ok(())
     }
 
-    /// Fails to cut a file to a length. What reads give stays.
-    pub fn fail_cut(&mut self, file: File, len: u64)
+    /// Fails to cut a file to a length. What reads give stays. Without memory nothing happens.
+    pub fn fail_cut(&mut self, file: File, len: u64) -> Result<(), AllocError>
+        ensures ok { OnOk result (self.new.calls ≡ with_call self.old.calls file (Act.FailedCut len)) }
+        ensures err { OnErr result (self.new.calls ≡ self.old.calls) }
         ensures seen { (shown_of self.new.calls).seen file ≡ (shown_of self.old.calls).seen file }
         ensures turns { Turns file (Cut len) (shown_of self.old.calls) (shown_of self.new.calls) }
     {
         let act = Act::FailedCut { len };
-        let Ok(()) = self.calls.push(Call { file, act }) else {
-            return;
-        };
+        self.calls.push(Call { file, act })?;
+        Ok(())
     }
 
     /// Makes a file safe. Without memory nothing happens.

@@ -150,7 +150,7 @@ impl Disk for MemDisk {
 
     fn write_at(&mut self, file: File, at: u64, bytes: &[u8]) -> Result<(), Failed> {
         if self.next_fails() {
-            self.history.fail_write(file, at, bytes.len());
+            let _ = self.history.fail_write(file, at, bytes.len());
             return Err(self.write_fault());
         }
         match self.history.write(file, at, bytes) {
@@ -161,7 +161,7 @@ impl Disk for MemDisk {
 
     fn cut(&mut self, file: File, len: u64) -> Result<(), Failed> {
         if self.next_fails() {
-            self.history.fail_cut(file, len);
+            let _ = self.history.fail_cut(file, len);
             return Err(self.write_fault());
         }
         match self.history.cut(file, len) {
