@@ -40,7 +40,7 @@ fn a_fault_in_an_append_leaves_the_list_with_the_payload_or_without(
     let table = [[2, 2, 2], [2, 2, 2], [2, 2, 3], [2, 3, 3]];
     for (after, want) in (1..).zip(table) {
         let (mut disk, end) = two_records(alloc)?;
-        disk.fail(disk.calls() + after)?;
+        disk.fail(disk.calls().saturating_add(after))?;
         let answer = append(alloc, &mut disk, File::Log0, end, b"new", MOST);
         assert_eq!(rt; answer, Err(LogFault::DiskFault));
         assert_eq!(rt; disk.faults(), 1);
@@ -72,7 +72,7 @@ fn a_fault_in_a_clear_leaves_the_list_or_none(rt: HostRuntime) -> Result<(), Fai
     let table = [[2, 2, 2], [2, 0, 2], [0, 0, 0], [0, 0, 0]];
     for (after, want) in (1..).zip(table) {
         let (mut disk, _) = two_records(alloc)?;
-        disk.fail(disk.calls() + after)?;
+        disk.fail(disk.calls().saturating_add(after))?;
         let answer = clear(&mut disk, File::Log0);
         assert_eq!(rt; answer, Err(LogFault::DiskFault));
         assert_eq!(rt; left(alloc, &disk)?, want, "call {after}");
