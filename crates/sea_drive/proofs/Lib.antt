@@ -1,4 +1,3 @@
-pub mod OperationsLaws
 pub mod TextsLaws
 pub mod ReplyLaws
 pub mod RunLaws

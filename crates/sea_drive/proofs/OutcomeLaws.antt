@@ -7,7 +7,7 @@ use Rattle.std.proofs.lemmas.Str.{IsUtf8-from_is_utf8}
 use Rattle.sea_cell.specs.declared.keys.Moment.{Moment}
 use Rattle.sea_plain.specs.declared.base.Plain.{Plain}
 use Rattle.sea_drive.specs.declared.outcome.LineOutcome.TheVariants.{Silent, BadLine, NotYet}
-use Rattle.sea_drive.specs.Operations.{op_of}
+use Rattle.sea_ops.specs.Operations.{op_of}
 use Rattle.sea_drive.specs.Outcome.{other_words, is_silent, op_step, sql_outcome, word_step, text_step, takes_memory, text_takes_memory}
 use Rattle.sea_drive.specs.Select.{select_of}
 

@@ -1,5 +1,4 @@
 pub mod Lines
-pub mod Operations
 pub mod Outcome
 pub mod Play
 pub mod Reader

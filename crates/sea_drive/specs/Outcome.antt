@@ -12,7 +12,7 @@ use Rattle.sea_plain.specs.declared.operation.Op.TheVariants.{InsertTable, Appen
 use Rattle.sea_plain.specs.declared.refusal.OpRefusal.{OpRefusal}
 use Rattle.sea_drive.specs.declared.outcome.LineOutcome.{LineOutcome}
 use Rattle.sea_drive.specs.declared.outcome.LineOutcome.TheVariants.{Silent, Version, Rows, NoTable, BadLine, NotYet}
-use Rattle.sea_drive.specs.Operations.{op_of}
+use Rattle.sea_ops.specs.Operations.{op_of}
 use Rattle.sea_drive.specs.Select.{select_of, answer_of}
 use Rattle.sea_drive.specs.Texts.{without_return}
 

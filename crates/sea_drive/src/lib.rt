@@ -8,7 +8,6 @@ mod command;
 mod ending;
 mod line;
 mod lines;
-mod operations;
 mod outcome;
 mod player;
 mod reply;

@@ -4,17 +4,17 @@ ghost use Rattle.std.specs.List.{list_any, before_first, after_first};
 ghost use Rattle.std.specs.Result.{result_ok};
 ghost use Rattle.std.specs.Str.{bytes_eq};
 ghost use Rattle.sea_edge.specs.Minutes.{Tells};
-ghost use Rattle.sea_drive.specs.Operations.{op_of};
+ghost use Rattle.sea_ops.specs.Operations.{op_of};
 ghost use Rattle.sea_drive.specs.Outcome.{other_words, is_silent as is_silent_of, lacks_table as lacks_table_of, op_step, sql_outcome, word_step, text_step, takes_memory, text_takes_memory};
 ghost use Rattle.sea_drive.specs.Run.{Step, StepsBy};
 ghost use Rattle.sea_drive.specs.Select.{select_of};
 
-use crate::operations::op_of_text;
 use crate::outcome::LineOutcome;
 use crate::select::{answer_of, table_of_select};
 use crate::texts::without_return;
 use sea_cell::{Moment, Text};
 use sea_edge::Clock;
+use sea_ops::{OpFault, op_of_json};
 use sea_plain::{Entry, Op, OpRefusal, Plain, apply_plain, table_named};
 use std::alloc::{AllocError, Global};
 
@@ -142,11 +142,14 @@ fn play_op<C: Clock>(
     ensures step { StepsBy (C.told clock.old) (λ moment. op_step base.old moment (op_of text.now)) base.old (result_ok result) base.new }
     ensures clock { C.told clock.new ≡ C.told clock.old }
 {
-    let Some(op) = op_of_text(alloc, text)? else {
-        return Ok(LineOutcome::NotYet);
-    };
-    let moment = now(clock);
-    play_form(alloc, base, moment, op)
+    match op_of_json(alloc, text.as_bytes()) {
+        Ok(op) => {
+            let moment = now(clock);
+            play_form(alloc, base, moment, op)
+        }
+        Err(OpFault::BadOperation) => Ok(LineOutcome::NotYet),
+        Err(OpFault::Memory) => Err(AllocError),
+    }
 }
 
 // The moment at which an operation is made.

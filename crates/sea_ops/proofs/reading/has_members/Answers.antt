@@ -1,9 +1,9 @@
 use Rattle.std.proofs.Common.{◌==◌, ap, sym, ◌∙◌, ℕ, Option, false}
 use Rattle.std.specs.Option.{option_map_or}
 use Rattle.serde_json.specs.Data.{Members}
-use Rattle.sea_drive.specs.Operations.{count_of}
-use Rattle.sea_drive.proofs.OperationsLaws.{count-members}
-use Rattle.sea_drive.proofs.operations.has_members.Goals as goal
+use Rattle.sea_ops.specs.Operations.{count_of}
+use Rattle.sea_ops.proofs.OperationsLaws.{count-members}
+use Rattle.sea_ops.proofs.reading.has_members.Goals as goal
 
 pub returns-in-Some : goal.returns-in-Some
 returns-in-Some c =

@@ -1,29 +1,44 @@
-// Reading the operations that are built.
-ghost use Rattle.std.specs.Prelude.{◌≡◌, ◌++◌, ℕ, List, Option, IfOk, option_map, option_and_then, codes};
+// Reading operations.
+ghost use Rattle.std.specs.Prelude.{◌≡◌, ◌++◌, ℕ, List, Option, Some, None, IfOk, IsErrOf, option_map, option_and_then, codes};
 ghost use Rattle.serde_json.specs.Find.{as_array, as_object, get, get_member};
 ghost use Rattle.serde_json.specs.Read.{read};
 ghost use Rattle.serde_json.specs.View.{view, items_view, members_view};
-ghost use Rattle.sea_drive.specs.Operations.{op_of, op_of_json as op_of_data, insert_table_of, append_rows_of, is_form as is_form_of, has_members as has_members_of, text_at as text_at_of, says as says_of, each_of, unless_empty, column_of_json as column_of_data, row_of_json as row_of_data, row_with_id as row_with_id_of, cells_of_members as cells_of};
+ghost use Rattle.sea_ops.specs.Operations.{op_of, op_of_json as op_of_data, insert_table_of, append_rows_of, is_form as is_form_of, has_members as has_members_of, text_at as text_at_of, says as says_of, each_of, unless_empty, column_of_json as column_of_data, row_of_json as row_of_data, row_with_id as row_with_id_of, cells_of_members as cells_of};
 
+use crate::fault::OpFault;
 use sea_cell::{ColKind, NewColumn, NewColumns, Text, word_of_json};
 use sea_plain::{NamedCell, NamedCells, Op, OpRow, OpRows};
-use serde_json::{Error, Map, Value};
+use serde_json::{Map, Value};
 use sqlite_items::Items;
 use std::alloc::{AllocError, Global};
 
-/// The operation that a text is, or None where it is none of those that are built: an insert_table with text columns,
-/// or an append_rows.
-pub fn op_of_text(alloc: Global, text: &str) -> Result<Option<Op>, AllocError>
+/// The operation that a text is: an insert_table with text columns, or an append_rows. BadOperation says that it is
+/// neither, as a text that is no JSON (RFC 8259) in UTF-8, or that nests deeper than 127.
+pub fn op_of_json(alloc: Global, text: &[u8]) -> Result<Op, OpFault>
+    ensures ok { IfOk result (λ op. op_of text.now ≡ Some op) }
+    ensures bad { IsErrOf result OpFault.BadOperation → op_of text.now ≡ None }
+{
+    match op_of_bytes(alloc, text)? {
+        Some(op) => Ok(op),
+        None => Err(OpFault::BadOperation),
+    }
+}
+
+/// The same, where None says that the text is no operation.
+pub(crate) fn op_of_bytes(alloc: Global, text: &[u8]) -> Result<Option<Op>, AllocError>
     ensures { IfOk result (λ op. op ≡ op_of text.now) }
 {
-    match json_of(alloc, text)? {
-        Some(json) => Ok(op_of_json(alloc, &json)?),
+    let Ok(text) = str::from_utf8(text) else {
+        return Ok(None);
+    };
+    match value_of(alloc, text)? {
+        Some(json) => Ok(op_of_value(alloc, &json)?),
         None => Ok(None),
     }
 }
 
 // The JSON value of a text, or None where it is no JSON.
-fn json_of(alloc: Global, text: &str) -> Result<Option<Value>, AllocError>
+fn value_of(alloc: Global, text: &str) -> Result<Option<Value>, AllocError>
     ensures { IfOk result (λ json. option_map view json ≡ read text.now) }
 {
     match Value::from_str(alloc, text) {
@@ -38,7 +53,7 @@ fn json_of(alloc: Global, text: &str) -> Result<Option<Value>, AllocError>
 }
 
 // The operation that a JSON value is.
-fn op_of_json(alloc: Global, json: &Value) -> Result<Option<Op>, AllocError>
+fn op_of_value(alloc: Global, json: &Value) -> Result<Option<Op>, AllocError>
     ensures { IfOk result (λ op. op ≡ op_of_data (view json.now)) }
 {
     if is_form(json, "insert_table") {

@@ -1,7 +1,7 @@
 -- Which operation a JSON text is.
 use Rattle.std.specs.Prelude.{ℕ, ◌+◌, ◌==◌, ◌&&◌, List, [], ◌∷◌, Bool, false, if◌then◌else◌, Option, Some, None, option_map, option_and_then, codes}
 use Rattle.std.specs.Option.{option_map_or}
-use Rattle.std.specs.Str.{bytes_eq}
+use Rattle.std.specs.Str.{bytes_eq, is_utf8}
 use Rattle.serde_json.specs.Data.{Data, Items, no_items, item, Members, no_members, member}
 use Rattle.serde_json.specs.Find.{get, get_member, as_str, as_array, as_object}
 use Rattle.serde_json.specs.Read.{read}
@@ -78,6 +78,6 @@ op_of_json json =
     if is_form (codes "insert_table") json then insert_table_of json
     else (if is_form (codes "append_rows") json then append_rows_of json else None)
 
--- the operation that a text is
+-- the operation that a text is, which has to be UTF-8
 abbrev pub op_of : List ℕ → Option Op
-op_of text = option_and_then op_of_json (read text)
+op_of text = if is_utf8 text then option_and_then op_of_json (read text) else None

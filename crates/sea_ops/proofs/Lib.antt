@@ -1,0 +1,11 @@
+pub mod OperationsLaws
+pub mod TextsLaws
+pub mod TextsRead
+pub mod TokensRead
+pub mod DataRead
+pub mod TextsAgain
+pub mod OpsAgain
+pub mod FormsLaws
+pub mod RecordLaws
+pub mod RecordEntries
+pub mod RecordPlaces

@@ -1,0 +1,19 @@
+//! Operations as JSON, both ways, and the record of an entry in a log.
+//!
+//! It stands on the plain base's operations, on JSON values and on binary fields. The contract that matters to the
+//! crates above is that of `op_of_json`: which operation a text is, or that it is none.
+#![tactic(auto)]
+
+mod fault;
+mod laws;
+mod reading;
+mod record;
+#[cfg(test)]
+mod tests;
+mod writing;
+
+pub use fault::OpFault;
+pub use laws::{records_have_one_entry, texts_are_forms};
+pub use reading::op_of_json;
+pub use record::{entry_of_record, record_of_entry};
+pub use writing::op_text;
