@@ -1,9 +1,10 @@
+pub mod AskedLaws
 pub mod TextsLaws
 pub mod ReplyLaws
-pub mod RunLaws
-pub mod OutcomeLaws
 pub mod LinesOf
 pub mod LinesBuffer
 pub mod LinesSteps
 pub mod LinesLaws
 pub mod PlayLaws
+pub mod StandsLaws
+pub mod TurnLaws

@@ -8,7 +8,7 @@ use Rattle.sea_cell.specs.declared.values.CellValue.{CellValue}
 use Rattle.sea_cell.specs.declared.values.CellValue.TheVariants as cell
 use Rattle.sea_drive.specs.Reply.{row_json, outcome_json, outcome_line}
 use Rattle.sea_drive.specs.declared.outcome.LineOutcome.{LineOutcome}
-use Rattle.sea_drive.specs.declared.outcome.LineOutcome.TheVariants.{Silent, Version, Rows, NoTable, BadLine, NotYet}
+use Rattle.sea_drive.specs.declared.outcome.LineOutcome.TheVariants.{Silent, Version, Reopened, Rows, NoTable, NumbersSpent, BaseFailed, LogFull, DiskFault, NotABase, BadLine, NotYet}
 
 texts_float : (texts : List (List ℕ)) → items_have_float (items_of (map string texts)) ≡ false
 texts_float [] = refl
@@ -38,6 +38,12 @@ outcome_float Silent = refl
 outcome_float (Version _) = refl
 outcome_float (Rows answer) = rw (texts_float answer.columns, rows_float answer.rows) refl
 outcome_float (NoTable _) = refl
+outcome_float (Reopened _) = refl
+outcome_float (NumbersSpent _) = refl
+outcome_float (BaseFailed _) = refl
+outcome_float (LogFull _) = refl
+outcome_float DiskFault = refl
+outcome_float NotABase = refl
 outcome_float BadLine = refl
 outcome_float NotYet = refl
 
@@ -47,5 +53,11 @@ line-shown Silent h = absurd (h refl)
 line-shown (Version _) h = refl
 line-shown (Rows _) h = refl
 line-shown (NoTable _) h = refl
+line-shown (Reopened _) h = refl
+line-shown (NumbersSpent _) h = refl
+line-shown (BaseFailed _) h = refl
+line-shown (LogFull _) h = refl
+line-shown DiskFault h = refl
+line-shown NotABase h = refl
 line-shown BadLine h = refl
 line-shown NotYet h = refl

@@ -1,10 +1,12 @@
+pub mod Asked
 pub mod Lines
 pub mod Outcome
 pub mod Play
 pub mod Reader
 pub mod Reply
-pub mod Run
 pub mod Select
 pub mod Status
+pub mod Steps
 pub mod Texts
+pub mod Turns
 pub mod Words

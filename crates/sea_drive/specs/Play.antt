@@ -1,18 +1,27 @@
--- What a played script writes, and where it ends.
-use Rattle.std.specs.Prelude.{◌≡◌, ◌⊎◌, ℕ, ◌≤◌, ℤ, List, [], ◌++◌, length, take, flat_map, All, Bool, true, false, ◌||◌, if◌then◌else◌, is_none, Option, Some, None, IfSome}
+-- What a played script writes, what becomes of its disk, and where it ends. `told` and `shows` are of the disk, and `clock`
+-- is what the clock tells.
+use Rattle.std.specs.Prelude.{◌≡◌, ◌⊎◌, ℕ, ◌≤◌, ℤ, List, [], ◌∷◌, ◌++◌, length, take, flat_map, All, Bool, true, false, if◌then◌else◌, is_none, Option, Some, None, IfSome}
 use Rattle.std.specs.List.{list_any}
 use Rattle.std.specs.Io.KnownBytes.{Appends, IsAtEnd}
 use Rattle.sea_edge.specs.Faults.{Rose}
-use Rattle.sea_plain.specs.Base.{empty_base}
-use Rattle.sea_plain.specs.declared.base.Plain.{Plain}
+use Rattle.sea_disk.specs.Shown.{Files, Shown}
+use Rattle.sea_disk.specs.Runs.{Leaves}
+use Rattle.sea_core.specs.declared.kept.Core.{Core}
+use Rattle.sea_core.specs.declared.limits.Limits.{Limits}
+use Rattle.sea_core.specs.declared.fault.StartFault.{StartFault}
+use Rattle.sea_core.specs.declared.fault.StartFault.TheVariants as start
+use Rattle.sea_core.specs.Sound.{IsSound, StandsForCore}
+use Rattle.sea_core.specs.Stands.{KeepsStanding}
 use Rattle.sea_drive.specs.Lines.{Place, lines_of, line_limit, IsWithinLimits, PassesLimit, HasRead, HasReadTo}
+use Rattle.sea_drive.specs.Outcome.{start_outcome, is_disk_fault}
 use Rattle.sea_drive.specs.Reply.{reply_line}
-use Rattle.sea_drive.specs.Run.{Step, Run}
+use Rattle.sea_drive.specs.Steps.{Starts, Refuses, LineStep}
+use Rattle.sea_drive.specs.declared.line.Played.TheVariants.{On, Refused}
 use Rattle.sea_drive.specs.declared.outcome.LineOutcome.{LineOutcome}
 use Rattle.sea_drive.specs.declared.lines.ReadFault.{ReadFault}
 use Rattle.sea_drive.specs.declared.lines.ReadFault.TheVariants as fault
 use Rattle.sea_drive.specs.declared.ending.Status.{Status}
-use Rattle.sea_drive.specs.declared.ending.Status.TheVariants.{Done, Usage, SourceFault, SinkFault, Memory, TooLong}
+use Rattle.sea_drive.specs.declared.ending.Status.TheVariants.{Done, Usage, SourceFault, SinkFault, DiskFault, Memory, NotABase, TooLong}
 
 -- the reply lines of some results, one after another
 abbrev pub replies : List (Option LineOutcome) → List ℕ
@@ -22,25 +31,68 @@ replies results = flat_map reply_line results
 abbrev pub met_want : List (Option LineOutcome) → Bool
 met_want results = list_any is_none results
 
--- a script as far as it was played: its lines, those behind them, what came of each, and the base in the end
-pub record Script : Type 0 where
+-- some line met a fault of the disk
+abbrev pub met_fault : List (Option LineOutcome) → Bool
+met_fault results = list_any is_disk_fault results
+
+-- ---- lines that are played one after another
+
+-- the last of some cores, or the first where there are no more
+abbrev pub last_core : {D : Type 0} → Core D → List (Core D) → Core D
+last_core first [] = first
+last_core first (core ∷ cores) = last_core core cores
+
+-- each line is played on the core that the one before it left
+abbrev pub Run : {D : Type 0} → Option ℤ → Type 0 → (D → Shown) → Core D → List (List ℕ) → List (Option LineOutcome) → List (Core D) → Type 0
+Run clock told shows core [] [] [] = Unit {0}
+Run clock told shows core (line ∷ lines) (result ∷ results) (next ∷ cores) = LineStep clock told shows core line (On result next) × Run clock told shows next lines results cores
+Run clock told shows core _ _ _ = ⊥
+
+-- A script as far as it was played: its lines, those behind them, what came of each, the core before the first line and
+-- the one after each, and the fault of the reopening that ended it, where one did.
+pub record Script (D : Type 0) : Type 0 where
   pub lines : List (List ℕ)
   pub more : List (List ℕ)
   pub results : List (Option LineOutcome)
-  pub last : Plain
+  pub first : Core D
+  pub cores : List (Core D)
+  pub refusal : Option StartFault
 
--- The lines are the first of the input, where it is told, and the results are those of a run that begins with the
--- empty base.
-pub record IsPlayed (told : Option ℤ) (input : Option (List ℕ)) (script : Script) : Type 0 where
+-- The disk that a script leaves: that of the last core; or, where a reopening was refused in its last line, what that
+-- start left of it.
+abbrev pub RunsTo : {D : Type 0} → Option ℤ → Type 0 → (D → Shown) → Script D → D → Option StartFault → Type 0
+RunsTo clock told shows script back None =
+    Run clock told shows script.first script.lines script.results script.cores × (back ≡ (last_core script.first script.cores).disk)
+RunsTo clock told shows script back (Some fault) =
+    (lines : List (List ℕ)) × (line : List ℕ) × (results : List (Option LineOutcome)) × (script.lines ≡ lines ++ line ∷ []) × (script.results ≡ results ++ start_outcome fault ∷ [])
+    × Run clock told shows script.first lines results script.cores
+    × LineStep clock told shows (last_core script.first script.cores) line (Refused fault back)
+
+-- files that stand for what one of some cores stands for
+abbrev pub StandsForSome : {D : Type 0} → Core D → List (Core D) → Files → Type 0
+StandsForSome first [] files = StandsForCore first files
+StandsForSome first (core ∷ cores) files = StandsForCore first files ⊎ StandsForSome core cores files
+
+-- files that stand for what the disk's files stood for, or for what one of the script's cores stands for
+abbrev pub StandsInScript : {D : Type 0} → Shown → Core D → List (Core D) → Files → Type 0
+StandsInScript disk first cores files = KeepsStanding disk files ⊎ StandsForSome first cores files
+
+-- The lines are the first of the input, where it is told, and the script begins with the core that was started from the
+-- disk and leaves the disk that comes back. At each moment from before the start on, a stop leaves files that stand for
+-- what the disk's files stood for, or for what one of the script's cores stands for; and the last core is sound.
+pub record IsPlayed {D : Type 0} (clock : Option ℤ) (told : Type 0) (shows : D → Shown) (limits : Limits) (disk back : D) (input : Option (List ℕ)) (script : Script D) : Type 0 where
   pub split : IfSome input (λ bytes. lines_of bytes ≡ script.lines ++ script.more)
-  pub run : Run told empty_base script.lines script.results script.last
+  pub start : Starts told shows disk limits script.first
+  pub run : RunsTo clock told shows script back script.refusal
+  pub any_moment : told → Leaves (shows disk) (shows back) (StandsInScript (shows disk) script.first script.cores)
+  pub sound : told → IsSound shows (last_core script.first script.cores)
 
 -- each reply was given, and nothing else
-abbrev pub IsWritten : Option (List ℕ) → Option (List ℕ) → Script → Type 0
+abbrev pub IsWritten : {D : Type 0} → Option (List ℕ) → Option (List ℕ) → Script D → Type 0
 IsWritten taken given script = Appends taken given (replies script.results)
 
 -- a front of the replies was given that lacks at most the line of the last result, or its end
-pub record IsCut (taken given : Option (List ℕ)) (script : Script) : Type 0 where
+pub record IsCut {D : Type 0} (taken given : Option (List ℕ)) (script : Script D) : Type 0 where
   pub earlier : List (Option LineOutcome)
   pub final : List (Option LineOutcome)
   pub one : length final ≤ 1
@@ -48,30 +100,54 @@ pub record IsCut (taken given : Option (List ℕ)) (script : Script) : Type 0 wh
   pub count : ℕ
   pub written : Appends taken given (replies earlier ++ take count (replies final))
 
--- The input was played to its end, and it passes neither limit.
-pub record IsFinished (input left taken given : Option (List ℕ)) (script : Script) : Type 0 where
+-- The input was played to its end, no reopening was refused, and the input passes neither limit.
+pub record IsFinished {D : Type 0} (input left taken given : Option (List ℕ)) (script : Script D) : Type 0 where
   pub ended : IfSome input (λ _. IsAtEnd left)
   pub whole : IfSome input (λ _. script.more ≡ [])
   pub within : IfSome input IsWithinLimits
+  pub reopened : script.refusal ≡ None
   pub written : IsWritten taken given script
 
+-- a reopening was refused so, which ended the script, and its line was written
+abbrev pub IsRefused : {D : Type 0} → StartFault → Option (List ℕ) → Option (List ℕ) → Script D → Type 0
+IsRefused fault taken given script = (script.refusal ≡ Some fault) × IsWritten taken given script
+
 -- the next line passes its limit, or in it the input passes its own
-abbrev pub IsTooLong : Option (List ℕ) → Script → Type 0
+abbrev pub IsTooLong : {D : Type 0} → Option (List ℕ) → Script D → Type 0
 IsTooLong input script = IfSome input (λ bytes. (read : ℕ) × (rest : List ℕ) × HasRead bytes script.lines read rest × PassesLimit read rest)
 
 -- what a status says of the script
-abbrev pub SaysOf : Status → Option (List ℕ) → Option (List ℕ) → Option (List ℕ) → Option (List ℕ) → Script → Type 0
-SaysOf Done input left taken given script = IsFinished input left taken given script × (met_want script.results ≡ false)
+abbrev pub SaysOf : {D : Type 0} → Status → Option (List ℕ) → Option (List ℕ) → Option (List ℕ) → Option (List ℕ) → Script D → Type 0
+SaysOf Done input left taken given script = IsFinished input left taken given script × (met_fault script.results ≡ false) × (met_want script.results ≡ false)
+SaysOf DiskFault input left taken given script = (IsFinished input left taken given script × (met_fault script.results ≡ true)) ⊎ IsRefused start.DiskFault taken given script
+SaysOf NotABase input left taken given script = IsRefused start.NotABase taken given script
 SaysOf Memory input left taken given script =
-    (IsFinished input left taken given script × (met_want script.results ≡ true)) ⊎ IsCut taken given script
-SaysOf SourceFault input left taken given script = IsWritten taken given script
+    (IsFinished input left taken given script × (met_fault script.results ≡ false) × (met_want script.results ≡ true))
+    ⊎ (IsRefused start.Memory taken given script ⊎ IsCut taken given script)
+SaysOf SourceFault input left taken given script = IsWritten taken given script × (script.refusal ≡ None)
 SaysOf SinkFault input left taken given script = IsCut taken given script
-SaysOf TooLong input left taken given script = IsWritten taken given script × IsTooLong input script
+SaysOf TooLong input left taken given script = IsWritten taken given script × (script.refusal ≡ None) × IsTooLong input script
 SaysOf Usage input left taken given script = ⊥
 
--- A script was played: the first lines of the input were, the replies were given, and the status says how it ended.
-abbrev pub Ends : Status → Option ℤ → Option (List ℕ) → Option (List ℕ) → Option (List ℕ) → Option (List ℕ) → Type 0
-Ends status told input left taken given = (script : Script) × IsPlayed told input script × SaysOf status input left taken given script
+-- the status of a refused start
+abbrev pub start_status : StartFault → Status
+start_status start.Memory = Memory
+start_status start.DiskFault = DiskFault
+start_status start.NotABase = NotABase
+
+-- Where the first start is refused, nothing was written, and the status says why.
+pub record IsNotStarted {D : Type 0} (told : Type 0) (shows : D → Shown) (disk back : D) (taken given : Option (List ℕ)) (status : Status) : Type 0 where
+  pub fault : StartFault
+  pub says : status ≡ start_status fault
+  pub start : Refuses told shows disk fault back
+  pub nothing : Appends taken given []
+
+-- A script was played: the first lines of the input were, the replies were given, and the status says how it ended. Or it
+-- wasn't, since the first start was refused.
+abbrev pub Ends : {D : Type 0} → Status → Option ℤ → Type 0 → (D → Shown) → Limits → D → D → Option (List ℕ) → Option (List ℕ) → Option (List ℕ) → Option (List ℕ) → Type 0
+Ends {D = D} status clock told shows limits disk back input left taken given =
+    ((script : Script D) × IsPlayed clock told shows limits disk back input script × SaysOf status input left taken given script)
+    ⊎ IsNotStarted told shows disk back taken given status
 
 -- a status that tells of a fault of the source, and one that tells of a fault of the sink
 abbrev pub is_source_fault : Status → Bool
@@ -87,31 +163,30 @@ abbrev pub IsCaused : Bool → ℕ → ℕ → Type 0
 IsCaused true before now = (before ≤ now) × Rose before now
 IsCaused false before now = now ≡ before
 
+-- the disk's count of faults never falls, and it rose where a status tells of a fault of the disk
+pub record CountsDisk (status : Status) (before now : ℕ) : Type 0 where
+  pub later : before ≤ now
+  pub cause : status ≡ DiskFault → Rose before now
+
 -- ---- while a script is played
 
--- the script so far: its lines were read up to a place, each within its limit, and all their replies were given
-pub record Goes (told : Option ℤ) (input : Option (List ℕ)) (place : Place) (base : Plain) (taken given : Option (List ℕ)) (wanted : Bool) : Type 0 where
+-- The script so far: its lines were read up to a place, each within its limit, all their replies were given, and the
+-- core is the one after the last of them.
+pub record Goes {D : Type 0} (clock : Option ℤ) (told : Type 0) (shows : D → Shown) (limits : Limits) (disk : D) (input : Option (List ℕ)) (place : Place) (core : Core D) (taken given : Option (List ℕ)) (wanted faulted : Bool) : Type 0 where
   pub lines : List (List ℕ)
   pub results : List (Option LineOutcome)
+  pub first : Core D
+  pub cores : List (Core D)
   pub read : HasReadTo input lines place
   pub short : All (λ line. length line ≤ line_limit) lines
-  pub run : Run told empty_base lines results base
+  pub start : Starts told shows disk limits first
+  pub run : Run clock told shows first lines results cores
+  pub last : core ≡ last_core first cores
+  pub any_moment : told → Leaves (shows disk) (shows core.disk) (StandsInScript (shows disk) first cores)
+  pub sound : told → IsSound shows core
   pub written : Appends taken given (replies results)
   pub wants : wanted ≡ met_want results
-
--- one turn later it still goes on, or it has ended
-abbrev pub Turns : Option Status → Option ℤ → Option (List ℕ) → Option (List ℕ) → Place → Plain → Option (List ℕ) → Option (List ℕ) → Bool → Type 0
-Turns None told input left place base taken given wanted = Goes told input place base taken given wanted
-Turns (Some status) told input left place base taken given wanted = Ends status told input left taken given
-
--- the same of a turn's causes
-abbrev pub has_source_fault : Option Status → Bool
-has_source_fault None = false
-has_source_fault (Some status) = is_source_fault status
-
-abbrev pub has_sink_fault : Option Status → Bool
-has_sink_fault None = false
-has_sink_fault (Some status) = is_sink_fault status
+  pub faults : faulted ≡ met_fault results
 
 -- what was given of a piece: all of it, or, where the script ends there, some front of it or nothing
 abbrev pub WritesPiece : Option Status → List ℕ → Option (List ℕ) → Option (List ℕ) → Type 0
@@ -124,16 +199,9 @@ WritesPiece (Some _) piece old new = ⊥
 abbrev pub Writes : Option Status → Option LineOutcome → Option (List ℕ) → Option (List ℕ) → Type 0
 Writes status result old new = WritesPiece status (reply_line result) old new
 
--- a line was played and its reply written, as far as that went
-pub record PlaysOn (status : Option Status) (told : Option ℤ) (base : Plain) (wanted : Bool) (line : List ℕ) (new : Plain) (new_wanted : Bool) (given now : Option (List ℕ)) : Type 0 where
-  pub result : Option LineOutcome
-  pub step : Step told base line result new
-  pub wants : new_wanted ≡ (wanted || is_none result)
-  pub writes : Writes status result given now
-
 -- the status of a script whose lines were all played
-abbrev pub end_status : Bool → Status
-end_status wanted = if wanted then Memory else Done
+abbrev pub end_status : Bool → Bool → Status
+end_status wanted faulted = if faulted then DiskFault else (if wanted then Memory else Done)
 
 -- the status of a script whose next line can't be read
 abbrev pub fault_status : ReadFault → Status

@@ -1,7 +1,9 @@
 -- The words of a command line.
-use Rattle.std.specs.Prelude.{ℕ, ℤ, List, [], ◌∷◌, take, Bool, true, false, if◌then◌else◌, is_some, Option, Some, None, codes}
+use Rattle.std.specs.Prelude.{◌≡◌, ℕ, ℤ, List, [], ◌∷◌, take, Bool, true, false, if◌then◌else◌, is_some, Option, Some, None, codes}
 use Rattle.std.specs.Io.KnownBytes.{Appends}
 use Rattle.std.specs.Str.{bytes_eq}
+use Rattle.sea_disk.specs.Shown.{Shown}
+use Rattle.sea_core.specs.declared.limits.Limits.{Limits}
 use Rattle.sea_drive.specs.Play.{Ends}
 use Rattle.sea_drive.specs.declared.ending.Status.{Status}
 use Rattle.sea_drive.specs.declared.ending.Status.TheVariants.{Usage, SinkFault}
@@ -27,7 +29,7 @@ SaysUsage Usage taken given = Appends taken given usage_line
 SaysUsage SinkFault taken given = (count : ℕ) × Appends taken given (take count usage_line)
 SaysUsage _ taken given = ⊥
 
--- how a run of these words ends
-abbrev pub RunsTo : Bool → Status → Option ℤ → Option (List ℕ) → Option (List ℕ) → Option (List ℕ) → Option (List ℕ) → Type 0
-RunsTo true status told input left taken given = Ends status told input left taken given
-RunsTo false status told input left taken given = SaysUsage status taken given
+-- How a run of these words ends: a script was played with the standard limits, or the disk comes back as it was.
+abbrev pub RunsBy : {D : Type 0} → Bool → Status → Option ℤ → Type 0 → (D → Shown) → D → D → Option (List ℕ) → Option (List ℕ) → Option (List ℕ) → Option (List ℕ) → Type 0
+RunsBy true status clock told shows disk back input left taken given = (limits : Limits) × (limits.log_bytes ≡ 268435456) × Ends status clock told shows limits disk back input left taken given
+RunsBy false status clock told shows disk back input left taken given = SaysUsage status taken given × (back ≡ disk)

@@ -1,40 +1,48 @@
 // The top call: what the program does with the words that it is given.
 ghost use Rattle.std.specs.Prelude.{◌≡◌, false, option_map};
+ghost use Rattle.sea_core.specs.Stands.{StandsFor};
+ghost use Rattle.sea_plain.specs.declared.base.Plain.{Plain};
 ghost use Rattle.sea_drive.specs.Lines.{TakesWithin};
-ghost use Rattle.sea_drive.specs.Play.{IsCaused, is_source_fault, is_sink_fault};
-ghost use Rattle.sea_drive.specs.Words.{is_command, folder_in, usage_line as usage_line_of, SaysUsage, RunsTo};
+ghost use Rattle.sea_drive.specs.Play.{IsCaused, CountsDisk, is_source_fault, is_sink_fault};
+ghost use Rattle.sea_drive.specs.Words.{is_command, folder_in, usage_line as usage_line_of, SaysUsage, RunsBy};
 
 use crate::ending::Status;
 use crate::player::play;
 use sea_cell::Text;
+use sea_core::Limits;
+use sea_disk::Disk;
 use sea_edge::{Clock, Sink, Source};
 use std::alloc::Global;
 
 /// A word of a command line.
 pub type Word = Text;
 
-/// Does what the words say, which don't include the program's own name. `play FOLDER` plays the source as a script;
-/// other words are no command's yet, and write the usage line. It always returns, waits for nobody, and its status
-/// says how it ended.
-pub fn run<S: Source, K: Sink, C: Clock>(
+/// Does what the words say, which don't include the program's own name. `play FOLDER` plays the source as a script on
+/// the base that the disk's files stand for; other words are no command's yet, and write the usage line. It always
+/// returns, waits for nobody, and gives the disk back beside the status, which says how it ended.
+pub fn run<S: Source, K: Sink, D: Disk, C: Clock>(
     alloc: Global,
     words: &[Word],
     source: &mut S,
     sink: &mut K,
+    disk: D,
     clock: &mut C,
-) -> Status
-    ensures ends { RunsTo (is_command words.now) result (C.told clock.old) (S.left source.old) (S.left source.new) (K.taken sink.old) (K.taken sink.new) }
-    ensures source { IsCaused (is_source_fault result) (S.faults source.old) (S.faults source.new) }
-    ensures sink { IsCaused (is_sink_fault result) (K.faults sink.old) (K.faults sink.new) }
+) -> (Status, D)
+    ensures ends { RunsBy (is_command words.now) result.0 (C.told clock.old) D.told D.shows disk result.1 (S.left source.old) (S.left source.new) (K.taken sink.old) (K.taken sink.new) }
+    ensures source { IsCaused (is_source_fault result.0) (S.faults source.old) (S.faults source.new) }
+    ensures sink { IsCaused (is_sink_fault result.0) (K.faults sink.old) (K.faults sink.new) }
+    ensures disk { CountsDisk result.0 (D.faults disk) (D.faults result.1) }
+    // Only files that stand for no base are no base.
+    ensures no_base { D.told → result.0 ≡ Status.NotABase → (base : Plain) → ¬ StandsFor base (D.shows disk).seen }
     // At most 4,294,967,297 bytes are taken.
     ensures within { TakesWithin (S.left source.old) (S.left source.new) }
     // Words that are no command's take nothing from the source.
     ensures untouched { is_command words.now ≡ false → source.new ≡ source.old }
 {
     if folder_of(words).is_some() {
-        return play(alloc, source, sink, clock);
+        return play(alloc, Limits::standard(), source, sink, disk, clock);
     }
-    usage(sink)
+    (usage(sink), disk)
 }
 
 /// The folder that the words name, where they are a command's. The program's main alone uses it.

@@ -11,8 +11,12 @@ pub enum Status {
     SourceFault = 3,
     /// The sink failed, and the run ended there.
     SinkFault = 4,
+    /// A line met a fault of the disk, or a start or reopening did and the run ended there.
+    DiskFault = 5,
     /// A line met want of memory, or the run itself met it and ended there.
     Memory = 6,
+    /// A start or reopening found files that stand for no base, and the run ended there.
+    NotABase = 7,
     /// A line passes 1,048,576 bytes, or the input 4,294,967,296, and the run ended there.
     TooLong = 9,
 }

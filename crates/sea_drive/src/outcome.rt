@@ -1,5 +1,6 @@
 // What comes of a line.
 use sea_cell::{CellValue, Text, Texts};
+use sea_plain::Counter;
 use sqlite_items::Items;
 
 /// A row of an answer: its cells in the order of the answer's columns.
@@ -22,11 +23,24 @@ pub enum LineOutcome {
     Silent,
     /// An operation was accepted, and the base has this version.
     Version(u64),
+    /// The base was found again from its files, and has this version.
+    Reopened(u64),
     /// The answer of a select.
     Rows(Answer),
     /// There is no table of this name.
     NoTable(Text),
-    /// The line is no UTF-8, or its first word is none that a line may begin with.
+    /// The operation would raise this number above its last value.
+    NumbersSpent(Counter),
+    /// The disk failed in an earlier write, and so many of its calls had failed then. The base takes no operation until
+    /// it is reopened.
+    BaseFailed(u64),
+    /// The log would have so many bytes with the operation, which is more than it may have.
+    LogFull(u64),
+    /// A call of the disk failed.
+    DiskFault,
+    /// The files stand for no base.
+    NotABase,
+    /// The line is no UTF-8, or has no form.
     BadLine,
     /// The line has a form, or the operation a refusal, that isn't built yet.
     NotYet,

@@ -1,81 +1,100 @@
 // Playing a script.
-ghost use Rattle.std.specs.Prelude.{◌≡◌, ◌<◌, ◌||◌, ℕ, List, Option, Some, None, is_none, false, IfNone};
+ghost use Rattle.std.specs.Prelude.{◌≡◌, ◌<◌, ◌≤◌, ◌||◌, ℕ, List, Option, Some, None, is_none, false};
+ghost use Rattle.sea_core.specs.Stands.{StandsFor};
+ghost use Rattle.sea_plain.specs.declared.base.Plain.{Plain};
+ghost use Rattle.sea_core.specs.declared.limits.Limits.{Limits};
 ghost use Rattle.sea_drive.specs.Lines.{KeepsTotal, TakesWithin};
-ghost use Rattle.sea_drive.specs.Play.{Ends, Goes, Turns, IsCaused, is_source_fault, is_sink_fault, has_source_fault, has_sink_fault, Writes, WritesPiece, PlaysOn, end_status as end_status_of, fault_status as fault_status_of};
+ghost use Rattle.sea_drive.specs.Outcome.{start_outcome as start_outcome_of, is_disk_fault as is_disk_fault_of};
+ghost use Rattle.sea_drive.specs.Play.{Ends, Goes, IsCaused, CountsDisk, is_source_fault, is_sink_fault, Writes, WritesPiece, end_status as end_status_of, fault_status as fault_status_of, start_status as start_status_of};
 ghost use Rattle.sea_drive.specs.Reader.{place_of};
+ghost use Rattle.sea_drive.specs.Turns.{PlaysOn, Turns, HasCounted, has_source_fault, has_sink_fault, ends_by, CountsTurn, ReadsOn};
 
 use crate::ending::Status;
-use crate::line::play_line;
+use crate::line::Played;
 use crate::lines::{LineReader, ReadFault};
 use crate::outcome::LineOutcome;
+use crate::playing::play_line;
 use crate::reply::{line_of, memory_line};
+use crate::turn::{Player, Turn};
+use sea_core::{Core, Limits, StartFault};
+use sea_disk::Disk;
 use sea_edge::{Clock, Sink, Source};
-use sea_plain::Plain;
 use std::alloc::Global;
 
-/// Plays a script on the empty base: each line of the source in turn, with one reply line for each line that asks for
-/// one.
-pub fn play<S: Source, K: Sink, C: Clock>(
+/// Plays a script on the base that a disk's files stand for: each line of the source in turn, with one reply line for
+/// each line that asks for one. The disk comes back beside the status.
+pub fn play<S: Source, K: Sink, D: Disk, C: Clock>(
     alloc: Global,
+    limits: Limits,
     source: &mut S,
     sink: &mut K,
+    disk: D,
     clock: &mut C,
-) -> Status
-    ensures ends { Ends result (C.told clock.old) (S.left source.old) (S.left source.new) (K.taken sink.old) (K.taken sink.new) }
-    ensures source { IsCaused (is_source_fault result) (S.faults source.old) (S.faults source.new) }
-    ensures sink { IsCaused (is_sink_fault result) (K.faults sink.old) (K.faults sink.new) }
+) -> (Status, D)
+    ensures ends { Ends result.0 (C.told clock.old) D.told D.shows limits disk result.1 (S.left source.old) (S.left source.new) (K.taken sink.old) (K.taken sink.new) }
+    ensures source { IsCaused (is_source_fault result.0) (S.faults source.old) (S.faults source.new) }
+    ensures sink { IsCaused (is_sink_fault result.0) (K.faults sink.old) (K.faults sink.new) }
+    ensures disk { CountsDisk result.0 (D.faults disk) (D.faults result.1) }
+    // Only files that stand for no base are no base.
+    ensures no_base { D.told → result.0 ≡ Status.NotABase → (base : Plain) → ¬ StandsFor base (D.shows disk).seen }
     // At most 4,294,967,297 bytes are taken.
     ensures within { TakesWithin (S.left source.old) (S.left source.new) }
 {
     let Ok(mut reader) = LineReader::new(alloc) else {
-        return Status::Memory;
+        return (Status::Memory, disk);
     };
-    let mut player = Player {
-        base: Plain::new(alloc),
+    let core = match Core::start(alloc, disk, limits) {
+        Ok(core) => core,
+        Err((fault, disk)) => return (start_status(fault), disk),
+    };
+    let mut next = Turn::On(Player {
+        core,
         wanted: false,
-    };
+        faulted: false,
+    });
     'turns: loop {
-        if let Some(status) = turn(alloc, &mut reader, &mut player, source, sink, clock) {
-            return status;
+        match next {
+            Turn::On(player) => next = turn(alloc, &mut reader, player, source, sink, clock),
+            Turn::End(status, disk) => return (status, disk),
         }
     }
 }
 
-// The base of a script so far, and whether a line met want of memory.
-#[derive(Drop)]
-struct Player {
-    base: Plain,
-    wanted: bool,
-}
-
-// Plays the next line. Answers the status with which the script ends, or None where it goes on.
-fn turn<S: Source, K: Sink, C: Clock>(
+// Plays the next line, or ends.
+fn turn<S: Source, K: Sink, D: Disk, C: Clock>(
     alloc: Global,
     reader: &mut LineReader,
-    player: &mut Player,
+    player: Player<D>,
     source: &mut S,
     sink: &mut K,
     clock: &mut C,
-) -> Option<Status>
-    ensures turns { (input taken : Option (List ℕ)) → Goes (C.told clock.old) input (place_of reader.old (S.left source.old)) player.old.base taken (K.taken sink.old) player.old.wanted
-        → Turns result (C.told clock.old) input (S.left source.new) (place_of reader.new (S.left source.new)) player.new.base taken (K.taken sink.new) player.new.wanted }
+) -> Turn<D>
+    ensures turns { (limits : Limits) (disk : D) (input taken : Option (List ℕ)) → Goes (C.told clock.old) D.told D.shows limits disk input (place_of reader.old (S.left source.old)) player.core taken (K.taken sink.old) player.wanted player.faulted
+        → Turns (C.told clock.old) D.told D.shows limits disk input (S.left source.new) (place_of reader.new (S.left source.new)) taken (K.taken sink.new) result }
+    ensures disk { (start : ℕ) → HasCounted start (D.faults player.core.disk) player.faulted → CountsTurn D.faults start result }
     ensures source { IsCaused (has_source_fault result) (S.faults source.old) (S.faults source.new) }
     ensures sink { IsCaused (has_sink_fault result) (K.faults sink.old) (K.faults sink.new) }
     ensures clock { C.told clock.new ≡ C.told clock.old }
-    ensures progress { IfNone result (reader.old.read < reader.new.read) }
+    ensures progress { ReadsOn reader.old.read reader.new.read result }
     ensures counted { KeepsTotal (place_of reader.old (S.left source.old)) (place_of reader.new (S.left source.new)) }
 {
     match reader.next_line(alloc, source) {
         Ok(Some(line)) => player.play(alloc, line.as_slice(), sink, clock),
-        Ok(None) => Some(end_status(player.wanted)),
-        Err(fault) => Some(fault_status(fault)),
+        Ok(None) => {
+            let status = end_status(player.wanted, player.faulted);
+            Turn::End(status, player.finish())
+        }
+        Err(fault) => Turn::End(fault_status(fault), player.finish()),
     }
 }
 
 // The status of a script whose lines were all played.
-fn end_status(wanted: bool) -> Status
-    ensures { result ≡ end_status_of wanted }
+fn end_status(wanted: bool, faulted: bool) -> Status
+    ensures { result ≡ end_status_of wanted faulted }
 {
+    if faulted {
+        return Status::DiskFault;
+    }
     if wanted { Status::Memory } else { Status::Done }
 }
 
@@ -90,37 +109,93 @@ fn fault_status(fault: ReadFault) -> Status
     }
 }
 
-impl Player {
+// The status of a refused start.
+fn start_status(fault: StartFault) -> Status
+    ensures { result ≡ start_status_of fault }
+{
+    match fault {
+        StartFault::Memory => Status::Memory,
+        StartFault::DiskFault => Status::DiskFault,
+        StartFault::NotABase => Status::NotABase,
+    }
+}
+
+// What comes of a refused reopening.
+fn start_outcome(fault: StartFault) -> Option<LineOutcome>
+    ensures { result ≡ start_outcome_of fault }
+{
+    match fault {
+        StartFault::Memory => None,
+        StartFault::DiskFault => Some(LineOutcome::DiskFault),
+        StartFault::NotABase => Some(LineOutcome::NotABase),
+    }
+}
+
+impl<D: Disk> Player<D> {
+    // The disk.
+    fn finish(self) -> D
+        ensures { result ≡ self.core.disk }
+    {
+        let Player {
+            core,
+            wanted: _,
+            faulted: _,
+        } = self;
+        core.finish()
+    }
+
     // Plays a line, and writes its reply.
     fn play<K: Sink, C: Clock>(
-        &mut self,
+        self,
         alloc: Global,
         line: &[u8],
         sink: &mut K,
         clock: &mut C,
-    ) -> Option<Status>
-        ensures plays { PlaysOn result (C.told clock.old) self.old.base self.old.wanted line.now self.new.base self.new.wanted (K.taken sink.old) (K.taken sink.new) }
+    ) -> Turn<D>
+        ensures plays { PlaysOn (C.told clock.old) D.told D.shows self line.now result (K.taken sink.old) (K.taken sink.new) }
+        ensures disk { (start : ℕ) → HasCounted start (D.faults self.core.disk) self.faulted → CountsTurn D.faults start result }
         ensures sink { IsCaused (has_sink_fault result) (K.faults sink.old) (K.faults sink.new) }
         ensures source { has_source_fault result ≡ false }
         ensures clock { C.told clock.new ≡ C.told clock.old }
     {
-        let outcome = play_line(alloc, &mut self.base, clock, line);
-        self.wanted = wants(self.wanted, &outcome);
-        write(alloc, sink, &outcome)
+        let Player {
+            core,
+            wanted,
+            faulted,
+        } = self;
+        match play_line(alloc, core, clock, line) {
+            Played::On(outcome, core) => {
+                let wanted = wanted || outcome.is_none();
+                let faulted = faulted || is_disk_fault(&outcome);
+                match write(alloc, sink, &outcome) {
+                    None => Turn::On(Player {
+                        core,
+                        wanted,
+                        faulted,
+                    }),
+                    Some(status) => Turn::End(status, core.finish()),
+                }
+            }
+            Played::Refused(fault, disk) => match write(alloc, sink, &start_outcome(fault)) {
+                None => Turn::End(start_status(fault), disk),
+                Some(status) => Turn::End(status, disk),
+            },
+        }
     }
 }
 
-fn wants(wanted: bool, outcome: &Option<LineOutcome>) -> bool
-    ensures { result ≡ (wanted || is_none outcome.now) }
+// A line met a fault of the disk.
+fn is_disk_fault(outcome: &Option<LineOutcome>) -> bool
+    ensures { result ≡ is_disk_fault_of outcome.now }
 {
-    wanted || outcome.is_none()
+    matches!(outcome, Some(LineOutcome::DiskFault))
 }
 
-// Writes the reply of a line.
+// Writes the reply of a line. Answers the status with which the script ends, or None where it goes on.
 fn write<K: Sink>(alloc: Global, sink: &mut K, outcome: &Option<LineOutcome>) -> Option<Status>
     ensures writes { Writes result outcome.now (K.taken sink.old) (K.taken sink.new) }
-    ensures sink { IsCaused (has_sink_fault result) (K.faults sink.old) (K.faults sink.new) }
-    ensures source { has_source_fault result ≡ false }
+    ensures sink { IsCaused (ends_by is_sink_fault result) (K.faults sink.old) (K.faults sink.new) }
+    ensures source { ends_by is_source_fault result ≡ false }
 {
     let Some(shown) = outcome else {
         return give(sink, memory_line());
@@ -134,8 +209,8 @@ fn write<K: Sink>(alloc: Global, sink: &mut K, outcome: &Option<LineOutcome>) ->
 // Gives a piece in one call, unless it is empty.
 fn give<K: Sink>(sink: &mut K, piece: &[u8]) -> Option<Status>
     ensures gives { WritesPiece result piece.now (K.taken sink.old) (K.taken sink.new) }
-    ensures sink { IsCaused (has_sink_fault result) (K.faults sink.old) (K.faults sink.new) }
-    ensures source { has_source_fault result ≡ false }
+    ensures sink { IsCaused (ends_by is_sink_fault result) (K.faults sink.old) (K.faults sink.new) }
+    ensures source { ends_by is_source_fault result ≡ false }
 {
     if piece.is_empty() {
         return None;

@@ -1,12 +1,14 @@
 //! The program `seatable`: a server for bases, which plays scripts so far.
 //!
 //! It stands on `sea_drive`, whose `run` does all that the program does: here the words, standard input, standard
-//! output and the system's clock are put together, and the folder of a base is made.
+//! output, the system's clock and the folder of a base are put together.
 #![tactic(auto)]
 
-use sea_drive::{Word, folder_of, run};
-use sea_edge::{StdSink, StdSource, SystemClock};
+use sea_disk::{Disk, FolderDisk, MemDisk};
+use sea_drive::{Status, Word, folder_of, run};
+use sea_edge::{Clock, Sink, Source, StdSink, StdSource, SystemClock};
 use std::alloc::Global;
+use std::fs::File;
 use std::process::ExitCode;
 use std::rt::{Env, Files};
 use std::{env, fs, io};
@@ -22,15 +24,34 @@ fn main(rt: HostRuntime) -> ExitCode {
         Ok(words) => words,
         Err(_) => return ExitCode::from(NO_MEMORY),
     };
-    if make_folder(&rt, words.as_slice()).is_err() {
-        return ExitCode::from(NO_FOLDER);
-    }
+    let words = words.as_slice();
     let mut source = StdSource::new(rt.stdin());
     let mut sink = StdSink::new(rt.stdout());
     let mut clock = SystemClock::new(&rt);
-    let words = words.as_slice();
-    let status = run(rt.alloc(), words, &mut source, &mut sink, &mut clock);
+    let status = match folder_of(words) {
+        Some(folder) => match open_folder(&rt, rt.alloc(), folder) {
+            Ok(disk) => status_of(rt.alloc(), words, &mut source, &mut sink, disk, &mut clock),
+            Err(_) => return ExitCode::from(NO_FOLDER),
+        },
+        None => match MemDisk::blank(rt.alloc()) {
+            Ok(disk) => status_of(rt.alloc(), words, &mut source, &mut sink, disk, &mut clock),
+            Err(_) => return ExitCode::from(NO_MEMORY),
+        },
+    };
     ExitCode::from(status.code())
+}
+
+// The status of a run, which lets its disk go.
+fn status_of<S: Source, K: Sink, D: Disk + Drop, C: Clock>(
+    alloc: Global,
+    words: &[Word],
+    source: &mut S,
+    sink: &mut K,
+    disk: D,
+    clock: &mut C,
+) -> Status {
+    let (status, _disk) = run(alloc, words, source, sink, disk, clock);
+    status
 }
 
 // The words behind the program's own name. Where one is no UTF-8 there are none, which is no command.
@@ -47,13 +68,17 @@ fn words_of(rt: &(impl Env + AllocGlobal), alloc: Global) -> io::Result<Vec<Word
     Ok(words)
 }
 
-// Makes the folder that the words name, where it is absent.
-fn make_folder(rt: &impl Files, words: &[Word]) -> io::Result<()> {
-    match folder_of(words) {
-        Some(folder) => fs::create_dir_all(rt, folder),
-        None => Ok(()),
-    }
+// Opens the files of a folder, which is made where it is absent.
+fn open_folder<R: Files<File = File>>(
+    rt: &R,
+    alloc: Global,
+    folder: &str,
+) -> io::Result<FolderDisk> {
+    fs::create_dir_all(rt, folder)?;
+    FolderDisk::open(rt, alloc, folder)
 }
 
+#[cfg(test)]
+mod kept;
 #[cfg(test)]
 mod tests;

@@ -2,6 +2,7 @@
 ghost use Rattle.std.specs.Prelude.{◌<◌};
 
 use sea_cell::Text;
+use sea_disk::MemDisk;
 use sea_drive::{Status, Word, run};
 use sea_edge::{FixedClock, MemSink, MemSource};
 use std::alloc::{AllocError, Global};
@@ -21,7 +22,7 @@ const REPLIES: &str =
 const USAGE: &str =
     "usage: seatable new FOLDER | play FOLDER | dump FOLDER | drill FOLDER NUMBER COUNT | serve FOLDER ADDRESS WORKERS CONNECTIONS\n";
 
-// The status of a run, and what it has written.
+// The status of a run over a blank disk, and what it has written.
 fn played(
     alloc: Global,
     words: &[&str],
@@ -39,11 +40,12 @@ fn played(
     let mut source = MemSource::new(input, piece, vec![in alloc; source_fails]?);
     let mut sink = MemSink::new(Vec::new(alloc), vec![in alloc; sink_fails]?);
     let mut clock = FixedClock::new(0);
-    let status = run(
+    let (status, _disk) = run(
         alloc,
         command.as_slice(),
         &mut source,
         &mut sink,
+        MemDisk::blank(alloc)?,
         &mut clock,
     );
     Ok((status, Vec::from_slice(alloc, sink.taken.as_slice())?))
@@ -107,7 +109,11 @@ fn replies_to_each_line(rt: HostRuntime) -> Result<(), Fail> {
         ),
         (
             "state\nreopen\nread 1",
-            "{\"error\":\"NotYet\"}\n{\"error\":\"NotYet\"}\n{\"error\":\"NotYet\"}\n",
+            "{\"error\":\"NotYet\"}\n{\"reopened\":0}\n{\"error\":\"NotYet\"}\n",
+        ),
+        (
+            "reopen \nreopen now",
+            "{\"error\":\"BadLine\"}\n{\"error\":\"BadLine\"}\n",
         ),
         (
             "sql SELECT * FROM U_1",

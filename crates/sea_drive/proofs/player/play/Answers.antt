@@ -1,39 +1,60 @@
-use Rattle.std.proofs.Common.{refl, arith}
-use Rattle.sea_drive.specs.Lines.{Place}
+use Rattle.std.proofs.Common.{refl, sym, arith}
 use Rattle.sea_drive.specs.Reader.{place_of, unread}
-use Rattle.sea_drive.proofs.PlayLaws.{goes_first, ends_first, nothing_unread, total_first, total_then, takes_none, takes_within, length_unread}
+use Rattle.sea_drive.proofs.PlayLaws.{nothing_unread, total_first}
+use Rattle.sea_drive.proofs.TurnLaws.{goes_first, ends_first, ends_unstarted, ends_as, no_base_at_first}
 use Rattle.sea_drive.proofs.player.play.Goals as goal
 
 -- no memory for the reader
 pub returns-in_default-clause-ends : goal.returns-in_default-clause-ends
-returns-in_default-clause-ends g c = ends_first (g.C.Clock.told c.args.clock.now) (g.S.Source.left c.args.source.now) _ (g.K.Sink.taken c.args.sink.now)
+returns-in_default-clause-ends g c = ends_first (g.C.Clock.told c.args.clock.now) g.D.Disk.told g.D.Disk.shows g.met.D.Disk.sound c.args.limits c.args.disk (g.S.Source.left c.args.source.now) _ (g.K.Sink.taken c.args.sink.now)
+
+-- the first start was refused
+pub returns-in-Err-clause-ends : goal.returns-in-Err-clause-ends
+returns-in-Err-clause-ends g c =
+    let clock = g.C.Clock.told c.args.clock.now in
+    let left = g.S.Source.left c.args.source.now in
+    let taken = g.K.Sink.taken c.args.sink.now in
+    let unstarted = ends_unstarted clock g.D.Disk.told g.D.Disk.shows g.met.D.Disk.sound c.args.limits c.args.disk left left taken c.in-Err.fault c.in-Err.disk (record {
+      no_base = λ told. c.in-Err.ensures.no_base told;
+      any_moment = λ told. c.in-Err.ensures.any_moment_refused told;
+    }) in
+    ends_as clock g.D.Disk.told g.D.Disk.shows c.args.limits c.args.disk _ _ c.in-Err.disk c.in-Err.disk left left taken taken (sym c.start_status.ensures) refl unstarted
+
+pub returns-in-Err-clause-no_base : goal.returns-in-Err-clause-no_base
+returns-in-Err-clause-no_base g c = λ told is.
+    let clock = g.C.Clock.told c.args.clock.now in
+    let left = g.S.Source.left c.args.source.now in
+    let taken = g.K.Sink.taken c.args.sink.now in
+    let ends = ends_as clock g.D.Disk.told g.D.Disk.shows c.args.limits c.args.disk _ _ c.in-Err.disk c.in-Err.disk left left taken taken is refl (returns-in-Err-clause-ends g c) in
+    no_base_at_first clock g.D.Disk.told g.D.Disk.shows g.met.D.Disk.sound c.args.limits c.args.disk c.in-Err.disk left left taken taken ends told
 
 -- before the first line
 pub turns-init : goal.turns-init
-turns-init g c = record {
-  goes = goes_first _ (g.S.Source.left c.args.source.now) (g.K.Sink.taken c.args.sink.now) (place_of c.in-Ok.reader (g.S.Source.left c.args.source.now)) c.new-2.result (nothing_unread (unread c.in-Ok.reader) (g.S.Source.left c.args.source.now) c.in-Ok.ensures.nothing_unread) c.in-Ok.ensures.nothing_read c.new-2.ensures;
-  clock = refl;
-  source = refl;
-  sink = refl;
-  total = total_first (place_of c.in-Ok.reader (g.S.Source.left c.args.source.now)) (g.S.Source.left c.args.source.now) (nothing_unread (unread c.in-Ok.reader) (g.S.Source.left c.args.source.now) c.in-Ok.ensures.nothing_unread) c.in-Ok.ensures.nothing_read;
-}
+turns-init g c =
+    let left = g.S.Source.left c.args.source.now in
+    let place = place_of c.in-Ok.reader left in
+    let rest = nothing_unread (unread c.in-Ok.reader) left c.in-Ok.ensures.nothing_unread in
+    record {
+      turns = goes_first (g.C.Clock.told c.args.clock.now) g.D.Disk.told g.D.Disk.shows g.met.D.Disk.sound c.args.limits c.args.disk left (g.K.Sink.taken c.args.sink.now) place c.in-Ok-start.core rest c.in-Ok.ensures.nothing_read (record {
+        found = λ told. c.in-Ok-start.ensures.found told;
+        sound = λ told. c.in-Ok-start.ensures.sound told;
+        whole = c.in-Ok-start.ensures.fresh.0;
+        same_limits = c.in-Ok-start.ensures.fresh.1;
+        any_moment = λ told. c.in-Ok-start.ensures.any_moment told;
+      });
+      clock = refl;
+      source = refl;
+      sink = refl;
+      disk = record { later = omega (arith, c.in-Ok-start.ensures.faults); cause = λ is. absurd (cc) };
+      total = total_first place left rest c.in-Ok.ensures.nothing_read;
+    }
 
--- the last turn
-pub returns-in-Some-clause-ends : goal.returns-in-Some-clause-ends
-returns-in-Some-clause-ends g c =
-    let goes = rw (← c.turns.invariant.clock) at c.turns.invariant.goes in
-    rw (← c.turns.invariant.clock) (c.in-Some.ensures.turns (g.S.Source.left c.args.source.now) (g.K.Sink.taken c.args.sink.now) goes)
-
--- nothing was taken
-pub returns-in_default-clause-within : goal.returns-in_default-clause-within
-returns-in_default-clause-within g c = takes_none (g.S.Source.left c.args.source.now)
-
--- what was taken was read or is unread
-pub returns-in-Some-clause-within : goal.returns-in-Some-clause-within
-returns-in-Some-clause-within g c =
-    let reader = c.turn.new.reader in
-    let start : Place = record { read = 0; rest = g.S.Source.left c.args.source.now } in
-    let before = place_of c.turns.reader (g.S.Source.left c.turns.source) in
-    let now = place_of reader (g.S.Source.left c.turn.new.source) in
-    let total = total_then start before now c.turns.invariant.total c.in-Some.ensures.counted in
-    takes_within (g.S.Source.left c.args.source.now) (g.S.Source.left c.turn.new.source) reader.read (unread reader) total (omega (arith, reader.taken, length_unread reader))
+-- the script has ended
+pub returns-in-End-clause-no_base : goal.returns-in-End-clause-no_base
+returns-in-End-clause-no_base g c = λ told is.
+    let clock = g.C.Clock.told c.args.clock.now in
+    let left = g.S.Source.left c.args.source.now in
+    let taken = g.K.Sink.taken c.args.sink.now in
+    let ended = rw c.in-End.is at c.turns.invariant.turns in
+    let ends = ends_as clock g.D.Disk.told g.D.Disk.shows c.args.limits c.args.disk _ _ c.in-End.disk c.in-End.disk left (g.S.Source.left c.turns.source) taken (g.K.Sink.taken c.turns.sink) is refl ended in
+    no_base_at_first clock g.D.Disk.told g.D.Disk.shows g.met.D.Disk.sound c.args.limits c.args.disk c.in-End.disk left (g.S.Source.left c.turns.source) taken (g.K.Sink.taken c.turns.sink) ends told

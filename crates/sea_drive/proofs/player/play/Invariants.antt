@@ -1,18 +1,20 @@
-use Rattle.std.proofs.Common.{◌≡◌, ◌-◌}
-use Rattle.sea_drive.specs.Lines.{input_limit, KeepsTotal}
-use Rattle.sea_drive.specs.Play.{Goes}
+use Rattle.std.proofs.Common.{◌≡◌}
+use Rattle.sea_drive.specs.Lines.{KeepsTotal}
+use Rattle.sea_drive.specs.Play.{IsCaused}
 use Rattle.sea_drive.specs.Reader.{place_of}
+use Rattle.sea_drive.specs.Turns.{Turns, CountsTurn, has_source_fault, has_sink_fault, turns_left}
 use Rattle.sea_drive.proofs.player.play.Given as goal
 
--- the script goes on, its clock tells the same, and nothing has failed
+-- the script goes on or has ended, its clock tells the same, and each fault is counted
 abbrev pub invariant-turns : goal.invariant-turns
 invariant-turns g l = record {
-  goes : Goes (g.C.Clock.told l.fn.clock) (g.S.Source.left l.fn.source) (place_of l.reader (g.S.Source.left l.source)) l.player.base (g.K.Sink.taken l.fn.sink) (g.K.Sink.taken l.sink) l.player.wanted;
+  turns : Turns (g.C.Clock.told l.fn.clock) g.D.Disk.told g.D.Disk.shows l.fn.limits l.fn.disk (g.S.Source.left l.fn.source) (g.S.Source.left l.source) (place_of l.reader (g.S.Source.left l.source)) (g.K.Sink.taken l.fn.sink) (g.K.Sink.taken l.sink) l.next;
   clock : g.C.Clock.told l.clock ≡ g.C.Clock.told l.fn.clock;
-  source : g.S.Source.faults l.source ≡ g.S.Source.faults l.fn.source;
-  sink : g.K.Sink.faults l.sink ≡ g.K.Sink.faults l.fn.sink;
+  source : IsCaused (has_source_fault l.next) (g.S.Source.faults l.fn.source) (g.S.Source.faults l.source);
+  sink : IsCaused (has_sink_fault l.next) (g.K.Sink.faults l.fn.sink) (g.K.Sink.faults l.sink);
+  disk : CountsTurn g.D.Disk.faults (g.D.Disk.faults l.fn.disk) l.next;
   total : KeepsTotal (record { read = 0; rest = g.S.Source.left l.fn.source }) (place_of l.reader (g.S.Source.left l.source));
 }
 
 abbrev pub decreases-turns : goal.decreases-turns
-decreases-turns g l = input_limit - l.reader.read
+decreases-turns g l = turns_left l.reader.read l.next

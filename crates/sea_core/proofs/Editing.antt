@@ -1,0 +1,204 @@
+-- What an edit answers and leaves.
+use Rattle.std.proofs.Common.{◌≡◌, ◌≢◌, ℕ, ◌+◌, ◌<◌, ◌≤◌, List, [], ◌∷◌, ◌++◌, Option, Some, None, Result, Ok, Err, IsOk, IsUtf8, inl, inr, refl, sym, ap, ◌∙◌, subst, arith}
+use Rattle.std.proofs.lemmas.Bool.{cases_lt}
+use Rattle.sea_disk.specs.declared.file.File.{File}
+use Rattle.sea_disk.specs.declared.file.File.TheVariants.{Base0, Base1, Log0, Log1}
+use Rattle.sea_disk.specs.Shown.{Files, Shown, IsImage, IsDisk}
+use Rattle.sea_disk.specs.Runs.{Leaves, Works}
+use Rattle.sea_disk.specs.Composition.{works_leaves}
+use Rattle.sea_log.specs.declared.fault.LogFault.{LogFault}
+use Rattle.sea_log.specs.declared.fault.LogFault.TheVariants as log
+use Rattle.sea_log.specs.Images.{IsClosedInImages}
+use Rattle.sea_log.specs.Records.{HoldsWithOrWithout, size_with}
+use Rattle.sea_moment.specs.Moment.{IsMoment}
+use Rattle.sea_ops.specs.Operations.{op_of}
+use Rattle.sea_ops.specs.Record.{record_of, IsRecord}
+use Rattle.sea_ops.specs.Texts.{text_of}
+use Rattle.sea_plain.specs.declared.base.Plain.{Plain}
+use Rattle.sea_plain.specs.declared.operation.Entry.{Entry}
+use Rattle.sea_plain.specs.declared.operation.Op.{Op}
+use Rattle.sea_plain.specs.Apply.{apply}
+use Rattle.sea_core.specs.declared.fault.CoreFault.{CoreFault}
+use Rattle.sea_core.specs.declared.fault.CoreFault.TheVariants as edit
+use Rattle.sea_core.specs.declared.kept.Core.{Core}
+use Rattle.sea_core.specs.declared.kept.Doubt.{Doubt}
+use Rattle.sea_core.specs.Causes.{EditCause}
+use Rattle.sea_core.specs.Edits.{Edited}
+use Rattle.sea_core.specs.Keeping.{Kept, StandsForEither}
+use Rattle.sea_core.specs.Sound.{IsReady, StandsForOneOf, IsSoundAs, StandsWithOrWithout}
+use Rattle.sea_core.specs.Stands.{StandsFor}
+use Rattle.sea_core.specs.Taking.{TakesRecord, IsRefusedBy, IsRecordOf, IsTooLarge}
+use Rattle.sea_core.proofs.Making.{version_rises, makes_push}
+
+-- ---- what a disk leaves that stands for a base
+
+-- what holds of each image holds at any moment of doing nothing
+pub leaves_untouched : {disk : Shown} {P : Files → Type 0} → IsDisk disk → ((files : Files) → IsImage disk files → P files) → Leaves disk disk P
+leaves_untouched sound holds = record {
+  later = omega arith;
+  each = λ files now. holds files (sound.only_now files now);
+  before = λ moment files early was. inl was;
+}
+
+-- a disk that is ready stands for its base
+ready_stands : {disk : Shown} {base : Plain} {end : ℕ} → IsReady disk base end → (files : Files) → IsImage disk files → StandsFor base files
+ready_stands {end = end} ready files image = record {
+  base0 = ready.base0 (files Base0) (image Base0);
+  base1 = ready.base1 (files Base1) (image Base1);
+  second = ready.second (files Log1) (image Log1);
+  payloads = ready.payloads;
+  log = (end, inl (ready.log (files Log0) (image Log0)));
+  makes = ready.makes;
+}
+
+-- what a stop leaves stands for the base, or for the one with the entry in doubt
+sound_stands : (disk : Shown) (base : Plain) (doubt : Option Doubt) (end : ℕ) → IsSoundAs disk base doubt end → (files : Files) → IsImage disk files → StandsForOneOf base doubt files
+sound_stands disk base None end ready files image = ready_stands ready files image
+sound_stands disk base (Some doubt) end either files image = either files image
+
+-- without an entry in doubt a sound disk is ready
+pub ready_if_sound : (disk : Shown) (base : Plain) (doubt : Option Doubt) (end : ℕ) → doubt ≡ None → IsSoundAs disk base doubt end → IsReady disk base end
+ready_if_sound disk base doubt end none sound = subst (λ it. IsSoundAs disk base it end) none sound
+
+pub sound_if_ready : (disk : Shown) (base : Plain) (doubt : Option Doubt) (end : ℕ) → doubt ≡ None → IsReady disk base end → IsSoundAs disk base doubt end
+sound_if_ready disk base doubt end none ready = subst (λ it. IsSoundAs disk base it end) (sym none) ready
+
+-- an edit that touches nothing
+pub edit_untouched : {D : Type 0} (shows : D → Shown) (core : Core D) (entry : Entry) → IsDisk (shows core.disk) → IsSoundAs (shows core.disk) core.base core.doubt core.end → Leaves (shows core.disk) (shows core.disk) (StandsWithOrWithout core entry)
+edit_untouched shows core entry disk sound = leaves_untouched disk (λ files image. inl (sound_stands (shows core.disk) core.base core.doubt core.end sound files image))
+
+-- ---- one record more
+
+-- files whose log holds the list with the payload or without it stand for one of two bases
+stands_either : {disk : Shown} {base next : Plain} {payload : List ℕ} {end : ℕ} (ready : IsReady disk base end) → TakesRecord base payload next → (files : Files) → HoldsWithOrWithout ready.payloads payload (files Log0) → ((other : File) → other ≢ Log0 → disk.image other (files other)) → StandsForEither base next files
+stands_either ready takes files (inl holds) others = inl (record {
+  base0 = ready.base0 (files Base0) (others Base0 (λ e. cc));
+  base1 = ready.base1 (files Base1) (others Base1 (λ e. cc));
+  second = ready.second (files Log1) (others Log1 (λ e. cc));
+  payloads = ready.payloads;
+  log = holds;
+  makes = ready.makes;
+})
+stands_either {base = base} {next = next} {payload = payload} ready takes files (inr holds) others = inr (record {
+  base0 = ready.base0 (files Base0) (others Base0 (λ e. cc));
+  base1 = ready.base1 (files Base1) (others Base1 (λ e. cc));
+  second = ready.second (files Log1) (others Log1 (λ e. cc));
+  payloads = ready.payloads ++ payload ∷ [];
+  log = holds;
+  makes = makes_push ready.payloads base payload next ready.makes takes;
+})
+
+-- a run of calls that appends the record, seen as a whole
+pub keep_leaves : {old new : Shown} {base next : Plain} {payload : List ℕ} {end : ℕ} (ready : IsReady old base end) → TakesRecord base payload next → Works Log0 (HoldsWithOrWithout ready.payloads payload) old new → Leaves old new (StandsForEither base next)
+keep_leaves ready takes works = works_leaves works (λ files here others. stands_either ready takes files here others)
+
+-- what it leaves where it is cut short
+pub keep_doubts : {old new : Shown} {base next : Plain} {payload : List ℕ} {end : ℕ} (ready : IsReady old base end) → TakesRecord base payload next → Works Log0 (HoldsWithOrWithout ready.payloads payload) old new → (files : Files) → IsImage new files → StandsForEither base next files
+keep_doubts ready takes works files image =
+    stands_either ready takes files (works.now (files Log0) (image Log0)) (λ other differs. works.others.image other (files other) differs (image other))
+
+-- what it leaves at its end
+pub keep_ready : {old new : Shown} {base next : Plain} {payload : List ℕ} {end place : ℕ} (ready : IsReady old base end) → TakesRecord base payload next → Works Log0 (HoldsWithOrWithout ready.payloads payload) old new → IsClosedInImages new Log0 (ready.payloads ++ payload ∷ []) place → IsReady new next place
+keep_ready {base = base} {next = next} {payload = payload} ready takes works added = record {
+  base0 = λ bytes image. ready.base0 bytes (works.others.image Base0 bytes (λ e. cc) image);
+  base1 = λ bytes image. ready.base1 bytes (works.others.image Base1 bytes (λ e. cc) image);
+  second = λ bytes image. ready.second bytes (works.others.image Log1 bytes (λ e. cc) image);
+  payloads = ready.payloads ++ payload ∷ [];
+  log = added;
+  makes = makes_push ready.payloads base payload next ready.makes takes;
+}
+
+-- ---- answers
+
+-- a log that isn't refused as too large isn't
+pub within_limit : (result : Result ℕ LogFault) (size most : ℕ) → (most < size → result ≡ Err (log.LogFull size)) → result ≢ Err (log.LogFull size) → size ≤ most
+within_limit result size most full other = elim (cases_lt most size) [ inl large ↦ absurd (other (full large)) | inr small ↦ small ]
+
+-- the base refuses the entry
+pub edited_refused : {D : Type 0} (core : Core D) (entry : Entry) (fault : CoreFault) → core.doubt ≡ None → IsRefusedBy core.base entry fault → Edited core core entry (Err fault)
+edited_refused core entry edit.Memory none refused = refl
+edited_refused core entry (edit.Op refusal) none refused = (none, refused, refl)
+edited_refused core entry (edit.BaseFailed count) none refused = absurd refused
+edited_refused core entry (edit.LogFull size) none refused = absurd refused
+edited_refused core entry edit.DiskFault none refused = absurd refused
+
+pub cause_refused : (base : Plain) (entry : Entry) (fault : CoreFault) (count : ℕ) → IsRefusedBy base entry fault → EditCause {T = ℕ} (Err fault) count count
+cause_refused base entry edit.Memory count refused = refl
+cause_refused base entry (edit.Op refusal) count refused = refl
+cause_refused base entry (edit.BaseFailed _) count refused = refl
+cause_refused base entry (edit.LogFull size) count refused = refl
+cause_refused base entry edit.DiskFault count refused = absurd refused
+
+-- the record is longer than any log may be
+pub edited_too_large : {D : Type 0} (core : Core D) (entry : Entry) (next : Plain) (fault : CoreFault) → core.doubt ≡ None → apply core.base entry ≡ Ok next → IsTooLarge core.end next.version entry fault → Edited core core entry (Err fault)
+edited_too_large core entry next edit.Memory none made large = refl
+edited_too_large core entry next (edit.Op refusal) none made large = absurd large
+edited_too_large core entry next (edit.BaseFailed count) none made large = absurd large
+edited_too_large core entry next (edit.LogFull size) none made large = (
+  none,
+  subst IsOk (sym made) refl,
+  large.0 ∙ ap (λ version. size_with core.end (record_of version entry)) (version_rises core.base next entry made),
+  omega (arith, large.1, core.limits.within),
+  refl,
+)
+edited_too_large core entry next edit.DiskFault none made large = absurd large
+
+pub cause_too_large : (end lsn : ℕ) (entry : Entry) (fault : CoreFault) (count : ℕ) → IsTooLarge end lsn entry fault → EditCause {T = ℕ} (Err fault) count count
+cause_too_large end lsn entry edit.Memory count large = refl
+cause_too_large end lsn entry (edit.Op refusal) count large = refl
+cause_too_large end lsn entry (edit.BaseFailed _) count large = refl
+cause_too_large end lsn entry (edit.LogFull size) count large = refl
+cause_too_large end lsn entry edit.DiskFault count large = absurd large
+
+-- the record was made, and the log was asked to take it
+pub edited_kept : {D : Type 0} (old new : Core D) (entry : Entry) (next : Plain) (payload : List ℕ) (result : Result ℕ CoreFault) → old.doubt ≡ None → apply old.base entry ≡ Ok next → payload ≡ record_of (old.base.version + 1) entry → Kept old new next payload result → Edited old new entry result
+edited_kept old new entry next payload (Ok version) none made bytes kept = (
+  none,
+  made ∙ ap Ok (sym kept.1),
+  subst (λ it. size_with old.end it ≤ old.limits.log_bytes) bytes kept.0,
+  kept.2 ∙ ap (λ (it : Plain). it.version) (sym kept.1),
+  kept.3,
+  kept.4,
+)
+edited_kept old new entry next payload (Err edit.Memory) none made bytes kept = kept
+edited_kept old new entry next payload (Err (edit.Op refusal)) none made bytes kept = absurd kept
+edited_kept old new entry next payload (Err (edit.BaseFailed count)) none made bytes kept = absurd kept
+edited_kept old new entry next payload (Err (edit.LogFull size)) none made bytes kept = (
+  none,
+  subst IsOk (sym made) refl,
+  kept.0 ∙ ap (λ it. size_with old.end it) bytes,
+  kept.1,
+  kept.2,
+)
+edited_kept old new entry next payload (Err edit.DiskFault) none made bytes kept = (
+  none,
+  subst (λ it. size_with old.end it ≤ old.limits.log_bytes) bytes kept.0,
+  kept.1,
+  kept.2,
+  (kept.3.0, kept.3.1, made ∙ ap Ok (sym kept.3.2)),
+)
+
+-- ---- the record of an entry
+
+-- the canonical text of an operation is a form of it
+abbrev pub TextsAreForms : Type 0
+TextsAreForms = (op : Op) (text : List ℕ) → op_of text ≡ Some op → op_of (text_of op) ≡ Some op
+
+-- it is the next record of the base
+pub next_record : TextsAreForms → (base next : Plain) (entry : Entry) (payload : List ℕ) → IsMoment entry.moment.0 → IsUtf8 entry.user → (text : List ℕ) × (op_of text ≡ Some entry.op) → apply base entry ≡ Ok next → IsRecordOf next.version entry payload → IsRecord payload (base.version + 1) entry
+next_record forms base next entry payload moment user form made is =
+    let version = version_rises base next entry made in
+    record {
+      bytes = is.bytes ∙ ap (λ lsn. record_of lsn entry) version;
+      number = omega (arith, version, is.number);
+      moment = moment;
+      user = user;
+      user_fits = is.user_fits;
+      text_fits = is.text_fits;
+      form = forms entry.op form.0 form.1;
+    }
+
+-- what stands for the base or for the next one stands for one with the entry or without it
+pub with_or_without : {D : Type 0} (core : Core D) (entry : Entry) (next : Plain) → core.doubt ≡ None → apply core.base entry ≡ Ok next → (files : Files) → StandsForEither core.base next files → StandsWithOrWithout core entry files
+with_or_without core entry next none made files (inl stands) = inl (subst (λ it. StandsForOneOf core.base it files) (sym none) stands)
+with_or_without core entry next none made files (inr stands) = inr (next, made, stands)

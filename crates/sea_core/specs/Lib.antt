@@ -1,0 +1,7 @@
+pub mod Causes
+pub mod Edits
+pub mod Keeping
+pub mod Sound
+pub mod Stands
+pub mod Steps
+pub mod Taking

@@ -1,0 +1,45 @@
+-- What the steps of a start leave, for private clauses.
+use Rattle.std.specs.Prelude.{◌≡◌, ◌⊎◌, ℕ, ◌≤◌, List, [], length}
+use Rattle.sea_disk.specs.declared.file.File.{File}
+use Rattle.sea_disk.specs.declared.file.File.TheVariants.{Base0, Base1, Log0, Log1}
+use Rattle.sea_disk.specs.Shown.{Files, Shown, IsImage, IsSettled}
+use Rattle.sea_disk.specs.Runs.{Leaves}
+use Rattle.sea_log.specs.declared.fault.LogFault.{LogFault}
+use Rattle.sea_log.specs.declared.fault.LogFault.TheVariants as log
+use Rattle.sea_log.specs.Records.{IsClosedAt}
+use Rattle.sea_core.specs.declared.fault.StartFault.{StartFault}
+use Rattle.sea_core.specs.declared.fault.StartFault.TheVariants as start
+use Rattle.sea_core.specs.Stands.{IsClosedBase, StandAlike, KeepsStanding}
+
+-- A run of calls that changes at no moment what the files stand for.
+pub record Keeps (old new : Shown) : Type 0 where
+  pub leaves : Leaves old new (KeepsStanding old)
+  pub image : (files : Files) → IsImage new files → KeepsStanding old files
+  pub alike : StandAlike old.seen new.seen
+
+-- a stop leaves each file as reads give it
+abbrev pub IsAllSettled : Shown → Type 0
+IsAllSettled disk = (file : File) → IsSettled disk file
+
+-- the file holds a checkpoint
+abbrev pub IsBaseFile : File → Type 0
+IsBaseFile file = (file ≡ Base0) ⊎ (file ≡ Base1)
+
+-- both base files are closed
+abbrev pub AreClosed : Files → Type 0
+AreClosed files = IsClosedBase (files Base0) × IsClosedBase (files Base1)
+
+-- the file is a log
+abbrev pub IsLogFile : File → Type 0
+IsLogFile file = (file ≡ Log0) ⊎ (file ≡ Log1)
+
+-- a log that a record can be appended to: it is no short file, or its first gate is laid
+abbrev pub HasGate : List ℕ → Type 0
+HasGate bytes = (6 ≤ length bytes) ⊎ IsClosedAt bytes [] 0
+
+-- the fault of a start whose log is refused; a log that isn't written to is never full
+abbrev pub start_fault_of : LogFault → StartFault
+start_fault_of log.Memory = start.Memory
+start_fault_of log.DiskFault = start.DiskFault
+start_fault_of log.BadLog = start.NotABase
+start_fault_of (log.LogFull _) = start.NotABase

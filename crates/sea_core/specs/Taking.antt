@@ -1,0 +1,51 @@
+-- What the parts of a replay, of an edit and of a start say, for private clauses.
+use Rattle.std.specs.Prelude.{◌≡◌, ℕ, ◌+◌, ◌^◌, ◌<◌, ◌≤◌, List, length, Result, Ok, Err}
+use Rattle.sea_log.specs.Records.{size_with}
+use Rattle.sea_ops.specs.Record.{record_of, IsRecord}
+use Rattle.sea_ops.specs.Texts.{text_of}
+use Rattle.sea_plain.specs.declared.base.Plain.{Plain}
+use Rattle.sea_plain.specs.declared.operation.Entry.{Entry}
+use Rattle.sea_plain.specs.Apply.{apply}
+use Rattle.sea_core.specs.declared.fault.CoreFault.{CoreFault}
+use Rattle.sea_core.specs.declared.fault.CoreFault.TheVariants as core
+use Rattle.sea_core.specs.declared.fault.StartFault.{StartFault}
+use Rattle.sea_core.specs.Causes.{StartCause}
+
+-- the payload is the next record of a base, which takes its entry
+pub record TakesRecord (base : Plain) (payload : List ℕ) (next : Plain) : Type 0 where
+  pub entry : Entry
+  pub is_record : IsRecord payload (base.version + 1) entry
+  pub applied : apply base entry ≡ Ok next
+
+-- the base refuses the entry, unless memory ran out
+abbrev pub IsRefusedBy : Plain → Entry → CoreFault → Type 0
+IsRefusedBy base entry core.Memory = Unit {0}
+IsRefusedBy base entry (core.Op refusal) = apply base entry ≡ Err refusal
+IsRefusedBy base entry (core.BaseFailed _) = ⊥
+IsRefusedBy base entry (core.LogFull _) = ⊥
+IsRefusedBy base entry core.DiskFault = ⊥
+
+-- the bytes are the record of an entry, whose fields have places in it
+pub record IsRecordOf (lsn : ℕ) (entry : Entry) (payload : List ℕ) : Type 0 where
+  pub bytes : payload ≡ record_of lsn entry
+  pub number : lsn < 2 ^ 64
+  pub user_fits : length entry.user < 2 ^ 32
+  pub text_fits : length (text_of entry.op) < 2 ^ 32
+
+-- no log is as large as one with the record would be, unless memory ran out
+abbrev pub IsTooLarge : ℕ → ℕ → Entry → CoreFault → Type 0
+IsTooLarge end lsn entry core.Memory = Unit {0}
+IsTooLarge end lsn entry (core.Op _) = ⊥
+IsTooLarge end lsn entry (core.BaseFailed _) = ⊥
+IsTooLarge end lsn entry (core.LogFull size) = (size ≡ size_with end (record_of lsn entry)) × (268435456 < size)
+IsTooLarge end lsn entry core.DiskFault = ⊥
+
+-- the count of all faults rose where the answer is a fault of the disk, and stands as it was with every other answer
+abbrev pub CountsStart : {T : Type 0} → Result T StartFault → ℕ → ℕ → Type 0
+CountsStart (Ok _) before now = now ≡ before
+CountsStart (Err fault) before now = StartCause fault before now
+
+-- the count of failed writing calls stands as it was after Ok
+abbrev pub CountsFailedStart : {T : Type 0} → Result T StartFault → ℕ → ℕ → Type 0
+CountsFailedStart (Ok _) before now = now ≡ before
+CountsFailedStart (Err _) before now = before ≤ now

@@ -1,0 +1,24 @@
+//! A base that is kept: each operation that it acknowledges is found again after a stop at any moment.
+//!
+//! It stands on the log, on the records of entries, and on the plain base. The contract that matters to the crates
+//! above is that of `Core::edit` and `Core::start`: at each moment of an edit a stop leaves files that stand for the
+//! base before it, or with the entry; after Ok with it; and a start finds that base, and changes at no moment what the
+//! files stand for.
+#![tactic(auto)]
+
+mod fault;
+mod kept;
+mod laws;
+mod limits;
+mod preparing;
+mod reading;
+mod replaying;
+mod settling;
+mod start;
+#[cfg(test)]
+mod tests;
+
+pub use fault::{CoreFault, StartFault};
+pub use kept::{Core, Doubt};
+pub use laws::one_base_at_most;
+pub use limits::Limits;
