@@ -1,19 +1,16 @@
 -- The year, month and day that a day number of the years 1 to 9999 is of.
-use Rattle.std.proofs.Common.{◌≡◌, ℕ, zero, suc, ◌+◌, ◌-◌, ◌*◌, ◌<◌, ◌≤◌, ◌⊎◌, inl, inr, Bool, true, false, cond, refl, sym, ap, ◌∙◌, subst, arith, ℤ, pos, negsuc, ◌+ℤ◌, ◌-ℤ◌, ◌*ℤ◌, ◌<ℤ◌, ◌≤ℤ◌, unsigned_abs}
+use Rattle.std.proofs.Common.{◌≡◌, ℕ, zero, suc, ◌+◌, ◌<◌, ◌≤◌, inl, inr, Bool, true, false, cond, refl, sym, ap, ◌∙◌, subst, arith, ℤ, pos, ◌+ℤ◌, ◌-ℤ◌, ◌<ℤ◌, ◌≤ℤ◌, unsigned_abs}
 use Rattle.std.proofs.lemmas.Bool.{cases_order}
-use Rattle.std.proofs.lemmas.Bool.Decides.{nat_tests}
-use Rattle.std.proofs.lemmas.Int.{by_lt_z, ints, clamps}
-use Rattle.std.specs.Int.{int_div_euclid, int_rem_euclid}
+use Rattle.std.proofs.lemmas.Int.{by_lt_z, ints}
 use Rattle.jiff_core.specs.declared.civil.date.Date.{Date}
-use Rattle.jiff_core.specs.Calendar.{days_in_year, days_in_month, day_count, days_from_civil, IsYear, IsCivilDate}
+use Rattle.jiff_core.specs.Calendar.{days_in_month, day_count, days_from_civil, IsYear, IsCivilDate}
 use Rattle.jiff_core.specs.Date.{epoch_day}
-use Rattle.jiff_core.proofs.CalendarLemmas.{days_from_civil-day_count, days_in_month_bounds, day_count_bounds, day_count-day_of_year, day_count-day, day_count-next_month, day_count-next_year, day_count-later_year, day_count-last_of_year, day_count-end}
+use Rattle.jiff_core.proofs.CalendarLemmas.{days_from_civil-day_count, day_count_bounds, day_count-day_of_year, day_count-day, day_count-next_month, day_count-next_year, day_count-later_year, day_count-last_of_year, day_count-end}
 use Rattle.jiff_core.proofs.DateLemmas.{civil, days_from_civil-day, epoch_day_injective}
 use Rattle.jiff_core.proofs.MarchLemmas.{day_count-early}
 use Rattle.jiff_core.proofs.SignedLemmas.{signed_arith, one_part}
 use Rattle.jiff_fmt.specs.Text.{date_text}
-use Rattle.sea_moment.specs.Moment.{IsMoment}
-use Rattle.sea_moment.specs.Dates.{last_where, has_begun, year_of, month_of, day_of, day_text, moment_at, nearest_of, is_day, IsDayNumber}
+use Rattle.sea_moment.specs.Dates.{last_where, has_begun, year_of, month_of, day_of, day_text, IsDayNumber}
 
 -- 0001-01-01 lies 3,652,791 days after the first day of the calendar's count
 day_count-year_one : day_count (pos 1) 1 1 ≡ 3_652_791

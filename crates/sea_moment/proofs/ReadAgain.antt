@@ -1,13 +1,13 @@
 -- A moment is what its text says.
-use Rattle.std.proofs.Common.{◌≡◌, ℕ, zero, suc, ◌+◌, ◌-◌, ◌*◌, ◌/◌, ◌%◌, ◌<◌, ◌≤◌, ◌⊎◌, inl, inr, Bool, true, false, cond, ◌&&◌, ◌||◌, ◌==◌, nat_le, nat_lt, refl, sym, ap, ◌∙◌, subst, arith, ℤ, pos, negsuc, ◌+ℤ◌, ◌-ℤ◌, ◌*ℤ◌, ◌<ℤ◌, ◌≤ℤ◌, unsigned_abs, List, [], ◌∷◌, ◌++◌, length, codes, Option, Some, None, option_map, option_and_then}
+use Rattle.std.proofs.Common.{◌≡◌, ℕ, zero, suc, ◌+◌, ◌-◌, ◌*◌, ◌/◌, ◌%◌, ◌<◌, ◌≤◌, Bool, true, false, ◌&&◌, refl, ap, ◌∙◌, arith, ℤ, pos, unsigned_abs, List, [], ◌∷◌, ◌++◌, codes, Some}
 use Rattle.std.proofs.lemmas.Bool.Decides.{nat_tests}
 use Rattle.std.proofs.lemmas.Int.{ints, clamps}
 use Rattle.std.specs.Int.{int_div_euclid, int_rem_euclid}
-use Rattle.jiff_core.specs.Calendar.{days_in_month, days_from_civil, IsCivilDate}
+use Rattle.jiff_core.specs.Calendar.{IsCivilDate}
 use Rattle.jiff_core.proofs.CalendarLemmas.{days_in_month_bounds}
-use Rattle.jiff_core.proofs.SignedLemmas.{signed_arith, one_part}
+use Rattle.jiff_core.proofs.SignedLemmas.{signed_arith}
 use Rattle.jiff_fmt.specs.Text.{pad2, pad4}
-use Rattle.sea_moment.specs.Moment.{first_moment, last_moment, IsMoment}
+use Rattle.sea_moment.specs.Moment.{IsMoment}
 use Rattle.sea_moment.specs.Dates.{is_digit, has_form_of, number_in, is_day, day_number_of, day_in, minute_of_day, minute_in, moment_at, timed_moment_of, moment_of, year_of, month_of, day_of, day_text, clock_text, nearest_of, moment_text, IsDayNumber}
 use Rattle.sea_moment.proofs.DayNumbers.{IsDateOf, date_of_day}
 

@@ -1,9 +1,9 @@
 -- Moments as texts: `2024-02-29` and `2024-02-29 17:30`, by the calendar of ISO 8601, which is the Gregorian one in every year.
-use Rattle.std.specs.Prelude.{ℕ, zero, suc, ◌+◌, ◌-◌, ◌*◌, ◌/◌, ◌%◌, Bool, ◌&&◌, ◌||◌, ◌==◌, nat_lt, nat_le, if◌then◌else◌, ℤ, pos, ◌+ℤ◌, ◌-ℤ◌, ◌*ℤ◌, ◌≤ℤ◌, unsigned_abs, List, [], ◌∷◌, ◌++◌, length, slice_index, codes, Option, Some, None, option_map, option_and_then}
+use Rattle.std.specs.Prelude.{ℕ, zero, suc, ◌+◌, ◌-◌, ◌*◌, ◌/◌, ◌%◌, Bool, ◌&&◌, ◌||◌, ◌==◌, nat_lt, nat_le, if◌then◌else◌, ℤ, pos, ◌+ℤ◌, ◌-ℤ◌, ◌*ℤ◌, neg_ℤ, unsigned_abs, List, [], ◌∷◌, ◌++◌, length, slice_index, codes, Option, Some, None, option_map, option_and_then}
 use Rattle.std.specs.List.{list_all, zip}
 use Rattle.std.specs.Int.{int_max, int_min, int_div_euclid, int_rem_euclid}
 use Rattle.std.specs.Int.Signed.{le_z}
-use Rattle.jiff_core.specs.Calendar.{days_in_month, days_from_civil}
+use Rattle.jiff_core.specs.Calendar.{IsBetween, days_in_month, days_from_civil}
 use Rattle.jiff_fmt.specs.Text.{pad2, pad4}
 use Rattle.sea_moment.specs.Moment.{first_moment, last_moment}
 
@@ -95,6 +95,6 @@ nearest_of minutes = int_max first_moment (int_min minutes last_moment)
 unfoldable pub moment_text : ℤ → List ℕ
 moment_text minutes = day_text (int_div_euclid (nearest_of minutes) (pos 1440)) ++ clock_text (unsigned_abs (int_rem_euclid (nearest_of minutes) (pos 1440)))
 
--- the day numbers of the years 1 to 9999
+-- the day numbers from 0001-01-01 to 9999-12-31
 abbrev pub IsDayNumber : ℤ → Type 0
-IsDayNumber day = (pos 0 ≤ℤ (day +ℤ pos 719_162)) × (day ≤ℤ pos 2_932_896)
+IsDayNumber day = IsBetween (neg_ℤ (pos 719_162)) (pos 2_932_896) day

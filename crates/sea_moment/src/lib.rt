@@ -1,8 +1,9 @@
 //! Moments: minutes from 1970-01-01 00:00 UTC within the years 1 to 9999, and their texts.
 //!
-//! It stands on `jiff`'s calendar. The contracts that matter to the crates above are that of `is_moment`, whose
-//! definition `IsMoment` is the range, and those of `moment_of_text` and `text_of_moment`, whose definitions `moment_of`
-//! and `moment_text` say which texts are a moment and how one is shown; `shown_moments_are_read_again` joins the two.
+//! It stands on the calendar of `jiff_core` and the printer of `jiff_fmt`. The contracts that matter to the crates above
+//! are those of `is_moment`, whose definition `IsMoment` is the range, and of `moment_of_text` and `text_of_moment`, whose
+//! definitions `moment_of` and `moment_text` say which texts are a moment and how one is shown. That the one reads what
+//! the other shows is `shown_moments_are_read_again`.
 #![tactic(auto)]
 
 ghost use Rattle.std.specs.Prelude.{◌≡◌, ◌↔◌, ◌≤ℤ◌, IsTrue};

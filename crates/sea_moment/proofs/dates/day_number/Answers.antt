@@ -1,7 +1,6 @@
 -- A day of the calendar in the years 1 to 9999 has a day number of theirs.
-use Rattle.std.proofs.Common.{◌≡◌, ◌≤◌, ℤ, pos, arith, rules, ◌∙◌, to_z, of_z, w16, w32, w64}
+use Rattle.std.proofs.Common.{◌≡◌, pos, arith, ◌∙◌}
 use Rattle.std.proofs.lemmas.Int.{ints}
-use Rattle.jiff_core.proofs.DateLemmas.{civil}
 use Rattle.jiff_core.proofs.SignedLemmas.{signed_arith}
 use Rattle.sea_moment.proofs.DayNumbers.{date-range}
 use Rattle.sea_moment.proofs.dates.day_number.Goals as goal
