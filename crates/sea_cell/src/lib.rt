@@ -11,6 +11,7 @@ mod duplicate;
 mod keys;
 mod layout;
 mod selection;
+mod shared;
 mod sizes;
 #[cfg(test)]
 mod tests;
@@ -24,6 +25,7 @@ pub use duplicate::Duplicate;
 pub use keys::{ColKey, Ids, Moment, RowId, TableNo};
 pub use layout::{ColKind, Column, Columns, LinkEnd, NewColumn, NewColumns, NewEnd};
 pub use selection::{Filter, Filters, Term, Test, View, Views};
+pub use shared::Shared;
 pub use sizes::row_bytes;
 pub use text_type::{Text, Texts};
 pub use values::CellValue;
