@@ -3,7 +3,7 @@ use Rattle.std.specs.Option.{option_map_or}
 use Rattle.serde_json.specs.Data.{Members}
 use Rattle.sea_ops.specs.Operations.{count_of}
 use Rattle.sea_ops.proofs.OperationsLaws.{count-members}
-use Rattle.sea_ops.proofs.reading.has_members.Goals as goal
+use Rattle.sea_ops.proofs.members.has_members.Goals as goal
 
 pub returns-in-Some : goal.returns-in-Some
 returns-in-Some c =

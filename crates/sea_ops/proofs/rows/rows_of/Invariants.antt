@@ -1,7 +1,7 @@
 use Rattle.std.proofs.Common.{◌≡◌, ◌++◌, drop, option_map}
 use Rattle.serde_json.specs.View.{items_view}
 use Rattle.sea_ops.specs.Operations.{each_of, row_of_json}
-use Rattle.sea_ops.proofs.reading.rows_of.Given as goal
+use Rattle.sea_ops.proofs.rows.rows_of.Given as goal
 
 -- the rows so far and those of what is left are those of all
 abbrev pub invariant-loop-item : goal.invariant-loop-item
