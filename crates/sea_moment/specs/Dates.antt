@@ -1,4 +1,4 @@
--- Moments as texts: `2024-02-29` and `2024-02-29 17:30`, by the calendar of ISO 8601, which is the Gregorian one in every year.
+-- Moments as texts, `2024-02-29` and `2024-02-29 17:30`, by the calendar of ISO 8601: the Gregorian one in every year.
 use Rattle.std.specs.Prelude.{ℕ, zero, suc, ◌+◌, ◌-◌, ◌*◌, ◌/◌, ◌%◌, Bool, ◌&&◌, ◌||◌, ◌==◌, nat_lt, nat_le, if◌then◌else◌, ℤ, pos, ◌+ℤ◌, ◌-ℤ◌, ◌*ℤ◌, neg_ℤ, unsigned_abs, List, [], ◌∷◌, ◌++◌, length, slice_index, codes, Option, Some, None, option_map, option_and_then}
 use Rattle.std.specs.List.{list_all, zip}
 use Rattle.std.specs.Int.{int_max, int_min, int_div_euclid, int_rem_euclid}
