@@ -5,11 +5,14 @@
 //! small types that contracts see as lists of bytes and of items, `Cells` as the list of a row's cells by rising key.
 #![tactic(auto)]
 
+mod amounts;
 mod cellular;
 mod conversion;
 mod duplicate;
 mod keys;
+mod kinds;
 mod layout;
+mod once;
 mod selection;
 mod shared;
 mod sizes;
@@ -23,7 +26,9 @@ pub use cellular::{Cell, Cells, Row, Rows};
 pub use conversion::{CellFault, cell_of_json, json_of_cell};
 pub use duplicate::Duplicate;
 pub use keys::{ColKey, Ids, Moment, RowId, TableNo};
+pub use kinds::{Sort, kind_of_word, sort_of, type_word, words_name_kinds};
 pub use layout::{ColKind, Column, Columns, LinkEnd, NewColumn, NewColumns, NewEnd};
+pub use once::{is_among, no_text_goes_or_stays_twice, without_repeats};
 pub use selection::{Filter, Filters, Term, Test, View, Views};
 pub use shared::Shared;
 pub use sizes::row_bytes;

@@ -1,10 +1,17 @@
-//! The range of moments: minutes from 1970-01-01 00:00 UTC within the years 1 to 9999.
+//! Moments: minutes from 1970-01-01 00:00 UTC within the years 1 to 9999, and their texts.
 //!
-//! It stands on nothing. What the crates above use is `is_moment` and the definition `IsMoment` in its contract.
+//! It stands on the calendar of `jiff_core` and the printer of `jiff_fmt`. The contracts that matter to the crates above
+//! are those of `is_moment`, whose definition `IsMoment` is the range, and of `moment_of_text` and `text_of_moment`, whose
+//! definitions `moment_of` and `moment_text` say which texts are a moment and how one is shown. That the one reads what
+//! the other shows is `shown_moments_are_read_again`.
 #![tactic(auto)]
 
 ghost use Rattle.std.specs.Prelude.{◌≡◌, ◌↔◌, ◌≤ℤ◌, IsTrue};
 ghost use Rattle.sea_moment.specs.Moment.{first_moment, last_moment, IsMoment, is_in_range};
+
+mod dates;
+
+pub use dates::{moment_of_text, shown_moments_are_read_again, text_of_moment};
 
 /// 0001-01-01 00:00, the first moment, in minutes from 1970-01-01 00:00 UTC.
 pub const FIRST: i64 = -1_035_593_280;

@@ -1,0 +1,2 @@
+pub mod DayNumbers
+pub mod ReadAgain
