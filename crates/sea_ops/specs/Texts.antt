@@ -43,7 +43,7 @@ ids_json ids = array (items_of (map (λ id. string id.0) ids))
 abbrev pub whole_json : ℤ → Data
 whole_json whole = if is_whole whole then number (of_integer whole) else odd
 
--- the JSON that a cell's word came from
+-- the JSON that a cell's word came from, and what stands for Odd
 abbrev pub json_of_word : CellWord → Data
 json_of_word Null = null
 json_of_word (Check check) = boolean check

@@ -12,11 +12,7 @@ use sqlite_items::Items;
 use std::alloc::{AllocError, Global};
 
 /// The columns of the array under a name, or None where there is no array of nothing but columns.
-pub fn columns_at(
-    alloc: Global,
-    json: &Value,
-    name: &str,
-) -> Result<Option<NewColumns>, AllocError>
+pub fn columns_at(alloc: Global, json: &Value, name: &str) -> Result<Option<NewColumns>, AllocError>
     ensures { IfOk result (λ columns. columns ≡ each_at column_of_data name.now (view json.now)) }
 {
     match items_at(json, name) {

@@ -6,7 +6,7 @@ ghost use Rattle.sea_ops.specs.Operations.{op_of, op_of_json as op_of_data, tabl
 
 use crate::columns::{column_at, columns_at, leads_away, make_table};
 use crate::fault::OpFault;
-use crate::members::{has_members, ids_at, id_at, text_at, texts_at};
+use crate::members::{has_members, id_at, ids_at, text_at, texts_at};
 use crate::rows::{changes_at, rows_at};
 use crate::views::view_at;
 use sea_cell::Text;
@@ -70,12 +70,7 @@ fn op_of_value(alloc: Global, json: &Value) -> Result<Option<Op>, AllocError>
 
 // An operation on tables by its name, or another one.
 #[tactic(auto, unfolding(crate::specs::Operations::table_op))]
-fn table_op(
-    alloc: Global,
-    word: &str,
-    json: &Value,
-    table: &str,
-) -> Result<Option<Op>, AllocError>
+fn table_op(alloc: Global, word: &str, json: &Value, table: &str) -> Result<Option<Op>, AllocError>
     ensures { IfOk result (λ op. op ≡ table_op_of word.now (view json.now) table.now) }
 {
     if word == "insert_table" {
@@ -92,12 +87,7 @@ fn table_op(
 
 // An operation on columns by its name, or another one.
 #[tactic(auto, unfolding(crate::specs::Operations::column_op))]
-fn column_op(
-    alloc: Global,
-    word: &str,
-    json: &Value,
-    table: &str,
-) -> Result<Option<Op>, AllocError>
+fn column_op(alloc: Global, word: &str, json: &Value, table: &str) -> Result<Option<Op>, AllocError>
     ensures { IfOk result (λ op. op ≡ column_op_of word.now (view json.now) table.now) }
 {
     if word == "insert_column" {
@@ -117,12 +107,7 @@ fn column_op(
 
 // An operation on rows by its name, or another one.
 #[tactic(auto, unfolding(crate::specs::Operations::row_op))]
-fn row_op(
-    alloc: Global,
-    word: &str,
-    json: &Value,
-    table: &str,
-) -> Result<Option<Op>, AllocError>
+fn row_op(alloc: Global, word: &str, json: &Value, table: &str) -> Result<Option<Op>, AllocError>
     ensures { IfOk result (λ op. op ≡ row_op_of word.now (view json.now) table.now) }
 {
     if word == "append_rows" {
@@ -139,12 +124,7 @@ fn row_op(
 
 // An operation on links by its name, or another one.
 #[tactic(auto, unfolding(crate::specs::Operations::link_op))]
-fn link_op(
-    alloc: Global,
-    word: &str,
-    json: &Value,
-    table: &str,
-) -> Result<Option<Op>, AllocError>
+fn link_op(alloc: Global, word: &str, json: &Value, table: &str) -> Result<Option<Op>, AllocError>
     ensures { IfOk result (λ op. op ≡ link_op_of word.now (view json.now) table.now) }
 {
     if word == "add_link" {
@@ -158,12 +138,7 @@ fn link_op(
 
 // An operation on views by its name, or none.
 #[tactic(auto, unfolding(crate::specs::Operations::view_op))]
-fn view_op(
-    alloc: Global,
-    word: &str,
-    json: &Value,
-    table: &str,
-) -> Result<Option<Op>, AllocError>
+fn view_op(alloc: Global, word: &str, json: &Value, table: &str) -> Result<Option<Op>, AllocError>
     ensures { IfOk result (λ op. op ≡ view_op_of word.now (view json.now) table.now) }
 {
     if word == "insert_view" {

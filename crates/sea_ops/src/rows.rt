@@ -35,11 +35,7 @@ fn rows_of(alloc: Global, items: &[Value]) -> Result<Option<OpRows>, AllocError>
 }
 
 /// The changes of rows in the array under a name, each a row with an id.
-pub fn changes_at(
-    alloc: Global,
-    json: &Value,
-    name: &str,
-) -> Result<Option<RowChanges>, AllocError>
+pub fn changes_at(alloc: Global, json: &Value, name: &str) -> Result<Option<RowChanges>, AllocError>
     ensures { IfOk result (λ changes. changes ≡ each_at change_of_data name.now (view json.now)) }
 {
     match items_at(json, name) {

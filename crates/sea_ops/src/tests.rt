@@ -39,8 +39,8 @@ fn rows_in_their_canonical_text(rt: HostRuntime) -> Result<(), Fail> {
             r#"{"a":1,"b":-5,"c":18446744073709551615,"d":-9223372036854775808}"#,
         ),
         (
-            r#"{"a":1e2,"b":1.5,"c":18446744073709551616,"d":-0,"e":{"x":[{}]},"f":[1]}"#,
-            r#"{"a":{},"b":{},"c":{},"d":{},"e":{},"f":{}}"#,
+            r#"{"a":1e2,"b":1.5,"c":18446744073709551616,"d":-0,"e":{"x":[{}]},"f":[1],"g":1.0,"h":-9223372036854775809}"#,
+            r#"{"a":{},"b":{},"c":{},"d":{},"e":{},"f":{},"g":{},"h":{}}"#,
         ),
         (r#"{"a":["y","x"],"b":[]}"#, r#"{"a":["y","x"],"b":[]}"#),
         (
@@ -82,7 +82,10 @@ const FORMS: [(&str, &str); 25] = [
         "",
     ),
     (r#"{"op":"rename_table","table":"T","to":"U"}"#, ""),
-    (r#"{"to":"","table":"","op":"rename_table"}"#, r#"{"op":"rename_table","table":"","to":""}"#),
+    (
+        r#"{"to":"","table":"","op":"rename_table"}"#,
+        r#"{"op":"rename_table","table":"","to":""}"#,
+    ),
     (r#"{"op":"delete_table","table":"T"}"#, ""),
     (
         r#"{"op":"insert_column","table":"A","column":{"name":"L","type":"link","other_name":"R","other":"B"}}"#,
@@ -92,10 +95,19 @@ const FORMS: [(&str, &str); 25] = [
         r#"{"column":{"name":"S","options":["x"],"type":"single-select"},"op":"insert_column","table":"T"}"#,
         "",
     ),
-    (r#"{"column":"A","op":"rename_column","table":"T","to":"B"}"#, ""),
+    (
+        r#"{"column":"A","op":"rename_column","table":"T","to":"B"}"#,
+        "",
+    ),
     (r#"{"column":"A","op":"delete_column","table":"T"}"#, ""),
-    (r#"{"column":"S","op":"add_options","options":["red","red",""],"table":"T"}"#, ""),
-    (r#"{"column":"S","op":"add_options","options":[],"table":"T"}"#, ""),
+    (
+        r#"{"column":"S","op":"add_options","options":["red","red",""],"table":"T"}"#,
+        "",
+    ),
+    (
+        r#"{"column":"S","op":"add_options","options":[],"table":"T"}"#,
+        "",
+    ),
     (r#"{"op":"append_rows","rows":[],"table":"T"}"#, ""),
     (
         r#"{"table":"T","op":"modify_rows","rows":[{"b":1,"_id":"a","a":null},{"_id":"no id at all"}]}"#,
@@ -148,7 +160,7 @@ fn forms_in_their_canonical_text(rt: HostRuntime) -> Result<(), Fail> {
 }
 
 // Texts that are no operation, though some are near to one.
-const OTHERS: [&str; 48] = [
+const OTHERS: [&str; 65] = [
     "",
     "{}",
     "[]",
@@ -195,6 +207,23 @@ const OTHERS: [&str; 48] = [
     r#"{"op":"delete_rows","table":"T","ids":[1]}"#,
     r#"{"op":"add_link","table":"A","column":"L","row":1,"others":[]}"#,
     r#"{"op":"add_link","table":"A","column":"L","row":"a","others":"b"}"#,
+    r#"{"op":"append_rows","table":"T","rows":[{"a":"\ud800","a":1}]}"#,
+    r#"{"op":"append_rows","table":"T","rows":[{"_id":null}]}"#,
+    r#"{"op":"modify_rows","table":"T","rows":[{"_id":1}]}"#,
+    r#"{"op":"rename_column","table":"T","column":"A"}"#,
+    r#"{"op":"delete_column","table":"T","column":["A"]}"#,
+    r#"{"op":"remove_link","table":"A","column":"L","row":"a"}"#,
+    r#"{"op":"insert_table","table":"T","columns":[{"name":"L","type":"link","other":"U","other_name":"R"}]}"#,
+    r#"{"op":"insert_table","table":"T","columns":[{"name":"N","type":"number","unit":null}]}"#,
+    r#"{"op":"insert_table","table":"T","columns":[{"name":"S","type":"single-select","options":null}]}"#,
+    r#"{"op":"insert_table","table":"T","columns":[{"name":"S","type":"single-select","unit":""}]}"#,
+    r#"{"op":"insert_column","table":"T","column":{"name":"L","type":"link","other":"U","other_name":"R","unit":""}}"#,
+    r#"{"op":"insert_view","table":"T","view":"V"}"#,
+    r#"{"op":"delete_view","table":"T","view":{"name":"V"}}"#,
+    r#"{"op":"modify_view","table":"T","view":{"name":"V","conjunction":"And","filters":{}}}"#,
+    r#"{"op":"modify_view","table":"T","view":{"name":"V","conjunction":"And","filters":[],"all":true}}"#,
+    r#"{"op":"insert_view","table":"T","view":{"name":"V","conjunction":"And","filters":[{"column":"A","predicate":1,"term":null}]}}"#,
+    r#"{"op":"insert_view","table":"T","view":{"name":"V","conjunction":"And","filters":[{"column":"A","predicate":"is","term":1,"more":1}]}}"#,
     r#"{"op":"insert_view","table":"T","view":{"name":"V","conjunction":"and","filters":[]}}"#,
     r#"{"op":"insert_view","table":"T","view":{"name":"V","conjunction":"And","filters":[{"column":"A","predicate":"is"}]}}"#,
 ];
@@ -229,7 +258,9 @@ fn nested(alloc: Global, levels: usize) -> Result<String, AllocError> {
 fn as_deep_as_json_is_read(rt: HostRuntime) -> Result<(), Fail> {
     let text = nested(rt.alloc(), 127)?;
     let canonical = again(rt.alloc(), text.as_str())?;
-    assert!(rt; canonical.as_slice() == br#"{"op":"append_rows","rows":[{"a":{}}],"table":"T"}"#.as_slice());
+    assert!(rt;
+        canonical.as_slice() == br#"{"op":"append_rows","rows":[{"a":{}}],"table":"T"}"#.as_slice()
+    );
     let text = nested(rt.alloc(), 128)?;
     assert!(rt; is_no_operation(rt.alloc(), text.as_bytes()));
     Ok(())

@@ -114,7 +114,9 @@ fn add_options_json(
     ensures { IfOk result (λ json. view json ≡ add_options_json_of table.now column.now options.now) }
 {
     let options = texts_json(alloc, options)?;
-    Ok(json!(in alloc; {"column": column, "op": "add_options", "options": options, "table": table})?)
+    Ok(
+        json!(in alloc; {"column": column, "op": "add_options", "options": options, "table": table})?,
+    )
 }
 
 fn append_rows_json(alloc: Global, table: &str, rows: &[OpRow]) -> Result<Value, AllocError>
@@ -357,7 +359,7 @@ fn members_of_cells(alloc: Global, cells: &[NamedCell]) -> Result<Map<String, Va
     Ok(members)
 }
 
-// The JSON that a cell's word came from.
+// The JSON that a cell's word came from, and `{}` for what is Odd.
 fn word_json(alloc: Global, word: &CellWord) -> Result<Value, AllocError>
     ensures { IfOk result (λ json. view json ≡ json_of_word word.now) }
 {

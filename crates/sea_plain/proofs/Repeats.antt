@@ -7,7 +7,8 @@ use Rattle.std.proofs.lemmas.Bool.{or_parts}
 use Rattle.std.specs.List.{list_any}
 use Rattle.std.specs.Str.{bytes_eq}
 use Rattle.sea_cell.specs.declared.cellular.Row.{Row}
-use Rattle.sea_plain.specs.Names.{is_among, first_repeat}
+use Rattle.sea_cell.specs.Once.{is_among}
+use Rattle.sea_plain.specs.Names.{first_repeat}
 
 -- none of the texts is among those before
 pub record AreApart (before texts : List (List ℕ)) : Type 0 where
@@ -28,9 +29,9 @@ repeat_after before done [] h = refl
 repeat_after before done (text ∷ texts) h =
     let none : is_among before text ≡ false = h.apart text (first_among text texts) in
     let here : is_among (before ++ done) text ≡ is_among done text =
-        list_any-append (λ one. bytes_eq one text) before done ∙ ap (λ (b : Bool). b || is_among done text) none in
+    list_any-append (λ one. bytes_eq one text) before done ∙ ap (λ (b : Bool). b || is_among done text) none in
     let later : first_repeat ((before ++ done) ++ text ∷ []) texts ≡ first_repeat (done ++ text ∷ []) texts =
-        ap (λ (all : List (List ℕ)). first_repeat all texts) (append_assoc before done (text ∷ [])) ∙ repeat_after before (done ++ text ∷ []) texts (later_apart before text texts h) in
+    ap (λ (all : List (List ℕ)). first_repeat all texts) (append_assoc before done (text ∷ [])) ∙ repeat_after before (done ++ text ∷ []) texts (later_apart before text texts h) in
     ap (λ (among : Bool). cond among (Some text) (first_repeat ((before ++ done) ++ text ∷ []) texts)) here
     ∙ ap (λ (rest : Option (List ℕ)). cond (is_among done text) (Some text) rest) later
 

@@ -11,7 +11,8 @@ use crate::names::{first_repeat, first_repeat_after_rows, is_id, is_name};
 use crate::operation::{NamedCell, Op, OpRow};
 use crate::refusal::{Counter, OpRefusal};
 use sea_cell::{
-    CellFault, ColKind, Column, Duplicate, Moment, NewColumn, Row, Shared, Text, cell_of_json, row_bytes,
+    CellFault, ColKind, Column, Duplicate, Moment, NewColumn, Row, Shared, Text, cell_of_json,
+    row_bytes,
 };
 use std::alloc::Global;
 

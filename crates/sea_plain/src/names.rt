@@ -3,7 +3,8 @@ ghost use Rattle.std.specs.Prelude.{◌≡◌, ◌||◌, not, map, ℕ, List, If
 ghost use Rattle.std.specs.List.{list_all, list_any};
 ghost use Rattle.std.specs.Str.{bytes_eq};
 ghost use Rattle.std.specs.BTreeSet.{contains_text};
-ghost use Rattle.sea_plain.specs.Names.{is_name as is_name_of, is_name_byte as is_name_byte_of, is_id as is_id_of, is_id_byte as is_id_byte_of, is_among, first_repeat as first_repeat_of};
+ghost use Rattle.sea_cell.specs.Once.{is_among};
+ghost use Rattle.sea_plain.specs.Names.{is_name as is_name_of, is_name_byte as is_name_byte_of, is_id as is_id_of, is_id_byte as is_id_byte_of, first_repeat as first_repeat_of};
 
 use sea_cell::{Duplicate, Row, Shared, Text, Texts};
 use sqlite_items::Items;

@@ -56,35 +56,85 @@ pub struct NewView {
 #[derive(Drop)]
 pub enum Op {
     /// Makes a table of that name with these columns.
-    InsertTable { table: Text, columns: NewColumns },
+    InsertTable {
+        table: Text,
+        columns: NewColumns,
+    },
     /// Gives a table another name.
-    RenameTable { table: Text, to: Text },
+    RenameTable {
+        table: Text,
+        to: Text,
+    },
     /// Takes a table away with all that it has.
-    DeleteTable { table: Text },
+    DeleteTable {
+        table: Text,
+    },
     /// Makes a column at the end of the table's.
-    InsertColumn { table: Text, column: NewColumn },
+    InsertColumn {
+        table: Text,
+        column: NewColumn,
+    },
     /// Gives a column another name.
-    RenameColumn { table: Text, column: Text, to: Text },
+    RenameColumn {
+        table: Text,
+        column: Text,
+        to: Text,
+    },
     /// Takes a column away with its cells.
-    DeleteColumn { table: Text, column: Text },
+    DeleteColumn {
+        table: Text,
+        column: Text,
+    },
     /// Adds the options that the column doesn't have yet.
-    AddOptions { table: Text, column: Text, options: Texts },
+    AddOptions {
+        table: Text,
+        column: Text,
+        options: Texts,
+    },
     /// Appends rows to the table of that name.
-    AppendRows { table: Text, rows: OpRows },
+    AppendRows {
+        table: Text,
+        rows: OpRows,
+    },
     /// Replaces cells of rows.
-    ModifyRows { table: Text, rows: RowChanges },
+    ModifyRows {
+        table: Text,
+        rows: RowChanges,
+    },
     /// Takes rows away.
-    DeleteRows { table: Text, ids: Ids },
+    DeleteRows {
+        table: Text,
+        ids: Ids,
+    },
     /// Links a row with others, in a link column.
-    AddLink { table: Text, column: Text, row: RowId, others: Ids },
+    AddLink {
+        table: Text,
+        column: Text,
+        row: RowId,
+        others: Ids,
+    },
     /// Takes such links away.
-    RemoveLink { table: Text, column: Text, row: RowId, others: Ids },
+    RemoveLink {
+        table: Text,
+        column: Text,
+        row: RowId,
+        others: Ids,
+    },
     /// Makes a view at the end of the table's.
-    InsertView { table: Text, view: NewView },
+    InsertView {
+        table: Text,
+        view: NewView,
+    },
     /// Puts a view in the place of the one of its name.
-    ModifyView { table: Text, view: NewView },
+    ModifyView {
+        table: Text,
+        view: NewView,
+    },
     /// Takes a view away.
-    DeleteView { table: Text, view: Text },
+    DeleteView {
+        table: Text,
+        view: Text,
+    },
 }
 
 /// An operation, when it was made, and who made it.
