@@ -1,9 +1,10 @@
 -- Which cell a column makes of what an operation says, and how a cell is shown.
-use Rattle.std.specs.Prelude.{ℕ, ◌^◌, ◌&&◌, ℤ, pos, negsuc, List, length, map, ◌==◌, nat_lt, nat_le, Bool, if◌then◌else◌, Result, Ok, Err}
+use Rattle.std.specs.Prelude.{ℕ, ◌^◌, ◌&&◌, ℤ, pos, negsuc, List, length, map, ◌==◌, nat_lt, nat_le, Bool, if◌then◌else◌, Option, Some, None, Result, Ok, Err}
 use Rattle.std.specs.List.{list_all}
 use Rattle.serde_json.specs.Data.{Data, null, boolean, number, string, array}
 use Rattle.serde_json.specs.Find.{of_integer}
 use Rattle.serde_json.specs.View.{items_of}
+use Rattle.sea_moment.specs.Dates.{moment_of, moment_text}
 use Rattle.sea_cell.specs.Once.{is_among, once}
 use Rattle.sea_cell.specs.declared.keys.RowId.{RowId}
 use Rattle.sea_cell.specs.declared.layout.ColKind.{ColKind}
@@ -46,6 +47,17 @@ unfoldable pub check_of_word : CellWord → Result CellValue CellFault
 check_of_word word.Null = Ok cell.Empty
 check_of_word (word.Check check) = Ok (cell.Check check)
 check_of_word _ = Err fault.NotCheck
+
+-- the moment that a text says
+abbrev pub moment_cell : Option ℤ → Result CellValue CellFault
+moment_cell None = Err fault.BadDate
+moment_cell (Some minutes) = Ok (cell.Moment (record { 0 = minutes }))
+
+-- a date, where an operation says one
+unfoldable pub date_of_word : CellWord → Result CellValue CellFault
+date_of_word word.Null = Ok cell.Empty
+date_of_word (word.Text text) = moment_cell (moment_of text)
+date_of_word _ = Err fault.NotText
 
 -- one of the options; the empty text is Empty
 abbrev pub choice_cell : List (List ℕ) → List ℕ → Result CellValue CellFault
@@ -96,6 +108,7 @@ cell_of_kind kind.Text options word = text_of_word 1000 word
 cell_of_kind kind.LongText options word = text_of_word 8192 word
 cell_of_kind kind.Number options word = number_of_word word
 cell_of_kind kind.Check options word = check_of_word word
+cell_of_kind kind.Date options word = date_of_word word
 cell_of_kind kind.Select options word = choice_of_word options word
 cell_of_kind kind.Multi options word = choices_of_word options word
 cell_of_kind kind.People options word = names_of_word word
@@ -112,13 +125,14 @@ json_of_texts texts = array (items_of (map string texts))
 abbrev pub json_of_ids : List RowId → Data
 json_of_ids ids = array (items_of (map (λ id. string id.0) ids))
 
--- A cell is shown as the JSON that it came from, links as an array of ids, and an empty cell as null.
+-- A cell is shown as the JSON that it came from, but that a moment is printed anew, links as an array of ids, and an
+-- empty cell as null.
 abbrev pub json_of : CellValue → Data
 json_of cell.Empty = null
 json_of (cell.Text text) = string text
 json_of (cell.Number units) = number (of_integer units)
 json_of (cell.Check check) = boolean check
-json_of (cell.Moment moment) = null
+json_of (cell.Moment moment) = string (moment_text moment.0)
 json_of (cell.Choice option) = string option
 json_of (cell.Choices options) = json_of_texts options
 json_of (cell.Names names) = json_of_texts names

@@ -3,17 +3,19 @@ ghost use Rattle.std.specs.Prelude.{◌≡◌, IfOk, map};
 ghost use Rattle.std.specs.List.{list_all};
 ghost use Rattle.serde_json.specs.Data.{string};
 ghost use Rattle.serde_json.specs.View.{view};
+ghost use Rattle.sea_moment.specs.Dates.{moment_of};
 ghost use Rattle.sea_cell.specs.Answers.{Answers};
 ghost use Rattle.sea_cell.specs.Once.{is_among as is_among_of};
-ghost use Rattle.sea_cell.specs.Conversion.{cell_of, text_of_word, text_cell, number_of_word, number_cell, check_of_word, choice_of_word, choice_cell, choices_of_word, choices_cell, choices_once, names_of_word, names_cell, names_once, is_short as is_short_of, json_of, json_of_texts, json_of_ids};
+ghost use Rattle.sea_cell.specs.Conversion.{cell_of, text_of_word, text_cell, number_of_word, number_cell, check_of_word, date_of_word, moment_cell, choice_of_word, choice_cell, choices_of_word, choices_cell, choices_once, names_of_word, names_cell, names_once, is_short as is_short_of, json_of, json_of_texts, json_of_ids};
 
 use crate::amounts::is_amount;
-use crate::keys::RowId;
+use crate::keys::{Moment, RowId};
 use crate::layout::{ColKind, Column};
 use crate::once::{is_among, without_repeats};
 use crate::text_type::{Text, Texts};
 use crate::values::CellValue;
 use crate::words::CellWord;
+use sea_moment::{moment_of_text, text_of_moment};
 use serde_json::Value;
 use std::alloc::{AllocError, Global};
 use thiserror::Error;
@@ -59,11 +61,13 @@ impl From<AllocError> for CellFault {
 /// - text and long-text: NotText for what is no text, TooLong above 1,000 or 8,192 bytes. The empty text makes Empty.
 /// - number: NotWhole for what is no integer of 64 bits, OutOfRange where its absolute value is above 10^12.
 /// - checkbox: NotCheck for what is neither true nor false.
+/// - date: NotText for what is no text, BadDate for a text, the empty one too, that is neither a date `YYYY-MM-DD` of
+///   the years 0001 to 9999 nor such a date, one space or `T`, and a time `HH:MM` from 00:00 to 23:59.
 /// - single-select: NotText, and NoOption for a text that is none of the column's options. The empty text makes Empty.
 /// - multiple-select: NotList for what is no list of texts. Repeats count once, at their first place; then TooLong above
 ///   64 items, and NoOption where one is none of the column's options. The empty list makes Empty.
 /// - collaborator: NotList in the same way, then TooLong above 64 items or where one has more than 64 bytes.
-/// - date, link, ctime and mtime: NotWritable, also for null.
+/// - link, ctime and mtime: NotWritable, also for null.
 ///
 /// Memory stands in place of any of these answers where no memory is left.
 pub fn cell_of_json(alloc: Global, column: &Column, json: &CellWord) -> Result<CellValue, CellFault>
@@ -74,12 +78,11 @@ pub fn cell_of_json(alloc: Global, column: &Column, json: &CellWord) -> Result<C
         ColKind::LongText => text_of(alloc, 8192, json),
         ColKind::Number => number_of(json),
         ColKind::Check => check_of(json),
+        ColKind::Date => date_of(json),
         ColKind::Select => choice_of(alloc, column.options.as_slice(), json),
         ColKind::Multi => choices_of(alloc, column.options.as_slice(), json),
         ColKind::People => names_of(alloc, json),
-        ColKind::Date | ColKind::Link | ColKind::Made | ColKind::Changed => {
-            Err(CellFault::NotWritable)
-        }
+        ColKind::Link | ColKind::Made | ColKind::Changed => Err(CellFault::NotWritable),
     }
 }
 
@@ -139,6 +142,28 @@ fn check_of(json: &CellWord) -> Result<CellValue, CellFault>
         CellWord::Null => Ok(CellValue::Empty),
         CellWord::Check(check) => Ok(CellValue::Check(*check)),
         _ => Err(CellFault::NotCheck),
+    }
+}
+
+// The cell of a date column.
+#[tactic(auto, unfolding(crate::specs::Conversion::date_of_word))]
+fn date_of(json: &CellWord) -> Result<CellValue, CellFault>
+    ensures { result ≡ date_of_word json.now }
+{
+    match json {
+        CellWord::Null => Ok(CellValue::Empty),
+        CellWord::Text(text) => date_said(text.as_str()),
+        _ => Err(CellFault::NotText),
+    }
+}
+
+// The same of a text.
+fn date_said(text: &str) -> Result<CellValue, CellFault>
+    ensures { result ≡ moment_cell (moment_of text.now) }
+{
+    match moment_of_text(text) {
+        Some(minutes) => Ok(CellValue::Moment(Moment(minutes))),
+        None => Err(CellFault::BadDate),
     }
 }
 
@@ -248,9 +273,9 @@ fn are_short(texts: &[Text]) -> bool
     texts.iter().all(|text| text.as_str().len() <= 64)
 }
 
-/// A cell as JSON: a text and an option as a string, a number as an integer, a checkbox as true or false, options and
-/// names as an array of strings, links as an array of ids, and an empty cell as null. It fails only where no memory is
-/// left.
+/// A cell as JSON: a text and an option as a string, a number as an integer, a checkbox as true or false, a moment as
+/// `YYYY-MM-DD`, with a space and `HH:MM` behind it unless it is 00:00, options and names as an array of strings, links
+/// as an array of ids, and an empty cell as null. It fails only where no memory is left.
 pub fn json_of_cell(alloc: Global, cell: &CellValue) -> Result<Value, AllocError>
     ensures { IfOk result (λ json. view json ≡ json_of cell.now) }
 {
@@ -259,7 +284,7 @@ pub fn json_of_cell(alloc: Global, cell: &CellValue) -> Result<Value, AllocError
         CellValue::Text(text) => Ok(Value::try_from_str(alloc, text.as_str())?),
         CellValue::Number(units) => Ok(Value::from(*units)),
         CellValue::Check(check) => Ok(Value::Bool(*check)),
-        CellValue::Moment(_) => Ok(Value::Null),
+        CellValue::Moment(moment) => Ok(Value::String(text_of_moment(alloc, moment.0)?)),
         CellValue::Choice(option) => Ok(Value::try_from_str(alloc, option.as_str())?),
         CellValue::Choices(options) => Ok(texts_json(alloc, options.as_slice())?),
         CellValue::Names(names) => Ok(texts_json(alloc, names.as_slice())?),

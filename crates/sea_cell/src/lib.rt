@@ -1,8 +1,9 @@
 //! Values, columns and rows: what a table is made of.
 //!
-//! It stands on the range of moments and on JSON values. The contract that matters to the crates above is that of
-//! `cell_of_json`: which cell a column makes of what an operation says, or why it takes none. Texts and lists are
-//! small types that contracts see as lists of bytes and of items, `Cells` as the list of a row's cells by rising key.
+//! It stands on moments and their texts, and on JSON values. The contract that matters to the crates above is that of
+//! `cell_of_json`: which cell a column makes of what an operation says, or why it takes none. `json_of_cell` shows a
+//! cell, and `row_bytes` tells how long a row's encoding is. Texts and lists are small types that contracts see as lists
+//! of bytes and of items, `Cells` as the list of a row's cells by rising key.
 #![tactic(auto)]
 
 mod amounts;

@@ -9,7 +9,9 @@ use crate::values::CellValue;
 use sea_moment::is_moment;
 
 /// The length of the row's encoding in bytes, or 2^64 - 1 where it has none. docs/formats.md says how a row is
-/// encoded.
+/// encoded. It has no encoding where a moment lies outside the years 1 to 9999, a number's absolute value is above
+/// 10^12, the id has more than 255 bytes, there are more than 255 cells or items of a list, a text has 2^32 bytes or
+/// more, or a cell holds links.
 pub fn row_bytes(row: &Row) -> u64
     ensures { result ≡ row_bytes_of row.now }
 {

@@ -236,6 +236,25 @@ fn cells_of_checks_and_none(rt: HostRuntime) -> Result<(), Fail> {
 }
 
 #[test]
+fn cells_of_dates(rt: HostRuntime) -> Result<(), Fail> {
+    let alloc = rt.alloc();
+    for (json, said) in [
+        ("null", "null"),
+        ("\"2024-02-29\"", "\"2024-02-29\""),
+        ("\"2024-02-29 00:00\"", "\"2024-02-29\""),
+        ("\"2024-02-29T00:01\"", "\"2024-02-29 00:01\""),
+        ("\"2023-02-29\"", "BadDate"),
+        ("\"2024-02-29 24:00\"", "BadDate"),
+        ("\"\"", "BadDate"),
+        ("20240229", "NotText"),
+    ] {
+        let found = cell_said(alloc, ColKind::Date, json)?;
+        same(&rt, found.as_str(), said, json);
+    }
+    Ok(())
+}
+
+#[test]
 fn cells_of_lists(rt: HostRuntime) -> Result<(), Fail> {
     let alloc = rt.alloc();
     for (kind, json, said) in [
@@ -414,6 +433,7 @@ fn bytes_of_values(rt: HostRuntime) -> Result<(), Fail> {
         (ColKind::Select, "\"blue\"", 27 + 13),
         (ColKind::Number, "0", 27 + 13),
         (ColKind::Check, "false", 27 + 6),
+        (ColKind::Date, "\"2024-02-29\"", 27 + 13),
         (ColKind::Multi, "[\"red\",\"blue\"]", 27 + 6 + 7 + 8),
         (ColKind::People, "[\"é\",\"\"]", 27 + 6 + 6 + 4),
     ] {
