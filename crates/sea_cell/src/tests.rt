@@ -330,7 +330,7 @@ fn texts_once(rt: HostRuntime) -> Result<(), Fail> {
 }
 
 #[test]
-fn cells_never_made(rt: HostRuntime) -> Result<(), Fail> {
+fn links_as_arrays_of_ids(rt: HostRuntime) -> Result<(), Fail> {
     let alloc = rt.alloc();
     let mut ids = Ids::new(alloc);
     ids.push(RowId(Text::copy_of(alloc, "r2")?))?;
