@@ -1,5 +1,5 @@
 -- Texts that come twice, where none of them is among those before.
-use Rattle.std.proofs.Common.{◌≡◌, ℕ, List, [], ◌∷◌, ◌++◌, Bool, true, false, cond, ◌||◌, map, Option, Some, None, refl, sym, ap, ◌∙◌, append_assoc}
+use Rattle.std.proofs.Common.{◌≡◌, ℕ, List, [], ◌∷◌, ◌++◌, Bool, true, false, cond, ◌||◌, ◌<◌, ◌≤◌, length, get_or, arith, map, Option, Some, None, refl, sym, ap, ◌∙◌, append_assoc}
 use Rattle.std.proofs.lemmas.List.{append-nil}
 use Rattle.std.proofs.lemmas.List.Folds.{list_any-append}
 use Rattle.std.proofs.lemmas.Slice.Eq.{bytes_eq-Decides}
@@ -9,6 +9,20 @@ use Rattle.std.specs.Str.{bytes_eq}
 use Rattle.sea_cell.specs.declared.cellular.Row.{Row}
 use Rattle.sea_cell.specs.Once.{is_among}
 use Rattle.sea_plain.specs.Names.{first_repeat}
+
+-- the ids of rows that a text is among
+among_map : (rows : List Row) (text : List ℕ) → list_any (λ row. bytes_eq row.id.0 text) rows ≡ is_among (map (λ row. row.id.0) rows) text
+among_map [] text = refl
+among_map (row ∷ rows) text = ap (λ (rest : Bool). bytes_eq row.id.0 text || rest) (among_map rows text)
+
+-- one text is a repeat where it is the id of a row
+pub one_text : (rows : List Row) (texts : List (List ℕ)) (text : List ℕ) → 1 ≤ length texts → length texts < 2 → text ≡ get_or texts 0 text
+    → cond (list_any (λ row. bytes_eq row.id.0 text) rows) (Some text) None ≡ first_repeat (map (λ row. row.id.0) rows) texts
+one_text rows [] text some few is = absurd (omega arith)
+one_text rows (first ∷ []) text some few is =
+    ap (λ (it : List ℕ). cond (list_any (λ row. bytes_eq row.id.0 it) rows) (Some it) None) is
+    ∙ ap (λ (among : Bool). cond among (Some first) None) (among_map rows first)
+one_text rows (first ∷ (second ∷ texts)) text some few is = absurd (omega arith)
 
 -- none of the texts is among those before
 pub record AreApart (before texts : List (List ℕ)) : Type 0 where

@@ -1,5 +1,5 @@
 // Names and ids, and texts that come twice.
-ghost use Rattle.std.specs.Prelude.{◌≡◌, ◌||◌, not, map, ℕ, List, IfOk, OnOk};
+ghost use Rattle.std.specs.Prelude.{◌≡◌, ◌||◌, not, map, ℕ, List, Some, None, if◌then◌else◌, IfOk, OnOk};
 ghost use Rattle.std.specs.List.{list_all, list_any};
 ghost use Rattle.std.specs.Str.{bytes_eq};
 ghost use Rattle.std.specs.BTreeSet.{contains_text};
@@ -78,11 +78,42 @@ pub fn first_repeat_after_rows(
 ) -> Result<Option<Text>, AllocError>
     ensures { IfOk result (λ repeat. repeat ≡ first_repeat_of (map (λ row. row.id.0) rows.now) texts.now) }
 {
+    if let [text] = texts {
+        return repeat_of_one(alloc, rows, text);
+    }
     if !any_has_id(rows, &set_of(alloc, texts)?) {
         return first_repeat(alloc, &[], texts);
     }
     let used = ids_of_rows(alloc, rows)?;
     first_repeat(alloc, used.as_slice(), texts)
+}
+
+// The same of one text, as in most operations: it is a repeat where it is the id of a row.
+fn repeat_of_one(
+    alloc: Global,
+    rows: &[Shared<Row>],
+    text: &Text,
+) -> Result<Option<Text>, AllocError>
+    ensures { IfOk result (λ repeat. repeat ≡ (if list_any (λ row. bytes_eq row.id.0 text.now) rows.now then Some text.now else None)) }
+{
+    if is_id_of_one(rows, text.as_str()) {
+        return Ok(Some(text.duplicate(alloc)?));
+    }
+    Ok(None)
+}
+
+// Some row has this id.
+fn is_id_of_one(rows: &[Shared<Row>], id: &str) -> bool
+    ensures { result ≡ list_any (λ row. bytes_eq row.id.0 id.now) rows.now }
+{
+    rows.iter().any(|row| is_id_of(row.get(), id))
+}
+
+// The row has this id.
+fn is_id_of(row: &Row, id: &str) -> bool
+    ensures { result ≡ bytes_eq row.now.id.0 id.now }
+{
+    row.id.0.as_str() == id
 }
 
 // Some row has an id of the set.

@@ -53,7 +53,6 @@ pub struct NewView {
 }
 
 /// An operation on a base. Tables, columns, views and rows are named as in the operation, and need not be there.
-#[derive(Drop)]
 pub enum Op {
     /// Makes a table of that name with these columns.
     InsertTable {
@@ -136,6 +135,46 @@ pub enum Op {
         view: Text,
     },
 }
+
+// By hand, since what a derive makes of so many variants takes long to check.
+impl Drop for Op {
+    fn drop(self) {
+        match self {
+            Op::InsertTable { table, columns } => release((table, columns)),
+            Op::RenameTable { table, to } => release((table, to)),
+            Op::DeleteTable { table } => release(table),
+            Op::InsertColumn { table, column } => release((table, column)),
+            Op::RenameColumn { table, column, to } => release((table, column, to)),
+            Op::DeleteColumn { table, column } => release((table, column)),
+            Op::AddOptions {
+                table,
+                column,
+                options,
+            } => release((table, column, options)),
+            Op::AppendRows { table, rows } => release((table, rows)),
+            Op::ModifyRows { table, rows } => release((table, rows)),
+            Op::DeleteRows { table, ids } => release((table, ids)),
+            Op::AddLink {
+                table,
+                column,
+                row,
+                others,
+            } => release((table, column, row, others)),
+            Op::RemoveLink {
+                table,
+                column,
+                row,
+                others,
+            } => release((table, column, row, others)),
+            Op::InsertView { table, view } => release((table, view)),
+            Op::ModifyView { table, view } => release((table, view)),
+            Op::DeleteView { table, view } => release((table, view)),
+        }
+    }
+}
+
+// Lets a value go.
+fn release<T: Drop>(_value: T) {}
 
 /// An operation, when it was made, and who made it.
 #[derive(Drop)]
