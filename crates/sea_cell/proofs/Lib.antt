@@ -1,1 +1,2 @@
 pub mod CellsLaws
+pub mod OnceLaws

@@ -1,15 +1,37 @@
 -- How many bytes the encoding of a row has.
 use Rattle.std.specs.Prelude.{ℕ, ◌+◌, ◌-◌, ◌^◌, ◌&&◌, List, [], ◌∷◌, length, if◌then◌else◌, nat_lt, nat_le, Bool, Option, Some, None, option_map, option_and_then, unwrap_or}
 use Rattle.sea_moment.specs.Moment.{is_in_range}
+use Rattle.sea_cell.specs.Conversion.{is_amount}
 use Rattle.sea_cell.specs.declared.values.CellValue.{CellValue}
-use Rattle.sea_cell.specs.declared.values.CellValue.TheVariants.{Text}
+use Rattle.sea_cell.specs.declared.values.CellValue.TheVariants.{Empty, Text, Number, Check, Moment, Choice, Choices, Names, Links}
 use Rattle.sea_cell.specs.declared.cellular.Cell.{Cell}
 use Rattle.sea_cell.specs.declared.cellular.Row.{Row}
 
--- A text cell has 4 bytes of key, 1 of tag, 4 of length, and its own. The other kinds of cells have no encoding yet.
+-- A text after this many bytes that stand before it. Four bytes hold its length, so it has fewer than 2 ^ 32.
+abbrev pub text_size : ℕ → List ℕ → Option ℕ
+text_size before text = if nat_lt (length text) (2 ^ 32) then Some (before + length text) else None
+
+-- texts, each with 4 bytes of length
+abbrev pub texts_size : List (List ℕ) → Option ℕ
+texts_size [] = Some 0
+texts_size (text ∷ texts) = option_and_then (λ size. option_map (λ rest. size + rest) (texts_size texts)) (text_size 4 text)
+
+-- A list has 4 bytes of key, 1 of tag, 1 of count, and its texts.
+abbrev pub list_size : List (List ℕ) → Option ℕ
+list_size texts = if nat_le (length texts) 255 then option_map (λ size. 6 + size) (texts_size texts) else None
+
+-- A cell has 4 bytes of key, 1 of tag, and its content: a text and an option 4 of length and their own, a number and a
+-- moment 8, a checkbox 1. Links are no cells of a row's encoding, and Empty is none.
 abbrev pub cell_size : CellValue → Option ℕ
-cell_size (Text text) = if nat_lt (length text) (2 ^ 32) then Some (9 + length text) else None
-cell_size _ = None
+cell_size (Text text) = text_size 9 text
+cell_size (Number units) = if is_amount units then Some 13 else None
+cell_size (Check check) = Some 6
+cell_size (Moment moment) = if is_in_range moment.0 then Some 13 else None
+cell_size (Choice option) = text_size 9 option
+cell_size (Choices options) = list_size options
+cell_size (Names names) = list_size names
+cell_size (Links ids) = None
+cell_size Empty = None
 
 -- the cells together
 abbrev pub cells_size : List Cell → Option ℕ

@@ -5,6 +5,7 @@ ghost use Rattle.sea_cell.specs.Cells.{IsCells, IsRising, cell_under, with_cell,
 
 use crate::duplicate::Duplicate;
 use crate::keys::{ColKey, Moment, RowId};
+use crate::shared::Shared;
 use crate::values::CellValue;
 use sqlite_items::Items;
 use std::alloc::{AllocError, Global};
@@ -47,8 +48,8 @@ pub struct Row {
     pub cells: Cells,
 }
 
-/// A list of rows.
-pub type Rows = Items<Row>;
+/// A list of rows. Its copies share them.
+pub type Rows = Items<Shared<Row>>;
 
 impl Cells {
     /// No cells.

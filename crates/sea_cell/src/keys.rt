@@ -18,7 +18,8 @@ pub struct TableNo(pub u32);
 #[derive(Clone, Copy, PartialEq, Eq, PartialOrd, Ord)]
 pub struct Moment(pub i64);
 
-/// The id of a row: 1 to 22 letters, digits, `_` and `-`. No two rows of a table have the same id.
+/// The id of a row, as an operation names it. One that a row has is 1 to 22 letters, digits, `_` and `-`, and no two rows
+/// of a table have the same.
 #[derive(Drop)]
 pub struct RowId(pub Text);
 

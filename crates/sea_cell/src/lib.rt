@@ -1,16 +1,21 @@
 //! Values, columns and rows: what a table is made of.
 //!
-//! It stands on the range of moments and on JSON values. The contract that matters to the crates above is that of
-//! `cell_of_json`: which cell a column makes of what an operation says, or why it takes none. Texts and lists are
-//! small types that contracts see as lists of bytes and of items, `Cells` as the list of a row's cells by rising key.
+//! It stands on moments and their texts, and on JSON values. The contract that matters to the crates above is that of
+//! `cell_of_json`: which cell a column makes of what an operation says, or why it takes none. `json_of_cell` shows a
+//! cell, and `row_bytes` tells how long a row's encoding is. Texts and lists are small types that contracts see as lists
+//! of bytes and of items, `Cells` as the list of a row's cells by rising key.
 #![tactic(auto)]
 
+mod amounts;
 mod cellular;
 mod conversion;
 mod duplicate;
 mod keys;
+mod kinds;
 mod layout;
+mod once;
 mod selection;
+mod shared;
 mod sizes;
 #[cfg(test)]
 mod tests;
@@ -22,8 +27,11 @@ pub use cellular::{Cell, Cells, Row, Rows};
 pub use conversion::{CellFault, cell_of_json, json_of_cell};
 pub use duplicate::Duplicate;
 pub use keys::{ColKey, Ids, Moment, RowId, TableNo};
+pub use kinds::{Sort, kind_of_word, sort_of, type_word, words_name_kinds};
 pub use layout::{ColKind, Column, Columns, LinkEnd, NewColumn, NewColumns, NewEnd};
+pub use once::{is_among, no_text_goes_or_stays_twice, without_repeats};
 pub use selection::{Filter, Filters, Term, Test, View, Views};
+pub use shared::Shared;
 pub use sizes::row_bytes;
 pub use text_type::{Text, Texts};
 pub use values::CellValue;

@@ -1,6 +1,8 @@
 use crate::{
-    Cell, CellValue, CellWord, Cells, ColKey, ColKind, Column, Duplicate, Filter, Filters, Moment,
-    Row, RowId, Term, Test, Text, Texts, View, cell_of_json, json_of_cell, row_bytes, word_of_json,
+    Cell, CellValue, CellWord, Cells, ColKey, ColKind, Column, Duplicate, Filter, Filters, Ids,
+    Moment, Row, RowId, Sort, Term, Test, Text, Texts, View, cell_of_json, json_of_cell,
+    kind_of_word, no_text_goes_or_stays_twice, row_bytes, sort_of, type_word, without_repeats,
+    word_of_json, words_name_kinds,
 };
 use sea_moment::{FIRST, LAST};
 use serde_json::Value;
@@ -68,13 +70,23 @@ fn row_of(alloc: Global, id: &str, made: i64, count: u32, text: &str) -> Result<
     })
 }
 
+// Some texts, as a list.
+fn texts_of(alloc: Global, texts: &[&str]) -> Result<Texts, AllocError> {
+    let mut all = Texts::new(alloc);
+    for text in texts {
+        all.push(Text::copy_of(alloc, text)?)?;
+    }
+    Ok(all)
+}
+
+// A column of a type, whose options are red and blue.
 fn column_of(alloc: Global, kind: ColKind) -> Result<Column, AllocError> {
     Ok(Column {
         key: ColKey(1),
         name: Text::copy_of(alloc, "Name")?,
         kind,
         unit: Text::copy_of(alloc, "")?,
-        options: Texts::new(alloc),
+        options: texts_of(alloc, &["red", "blue"])?,
         other: None,
     })
 }
@@ -164,7 +176,7 @@ fn cell_said(alloc: Global, kind: ColKind, json: &str) -> Result<String, Fail> {
 }
 
 #[test]
-fn cells_of_json(rt: HostRuntime) -> Result<(), Fail> {
+fn cells_of_texts(rt: HostRuntime) -> Result<(), Fail> {
     let alloc = rt.alloc();
     for (kind, json, said) in [
         (ColKind::Text, "null", "null"),
@@ -173,11 +185,195 @@ fn cells_of_json(rt: HostRuntime) -> Result<(), Fail> {
         (ColKind::Text, "7", "NotText"),
         (ColKind::LongText, "true", "NotText"),
         (ColKind::Text, "[\"x\"]", "NotText"),
-        (ColKind::Text, "{}", "NotText"),
-        (ColKind::Number, "7", "NotWritable"),
-        (ColKind::Made, "null", "NotWritable"),
+        (ColKind::Select, "null", "null"),
+        (ColKind::Select, "\"\"", "null"),
+        (ColKind::Select, "\"blue\"", "\"blue\""),
+        (ColKind::Select, "\"green\"", "NoOption"),
+        (ColKind::Select, "[\"blue\"]", "NotText"),
     ] {
         same(&rt, cell_said(alloc, kind, json)?.as_str(), said, json);
+    }
+    Ok(())
+}
+
+#[test]
+fn cells_of_numbers(rt: HostRuntime) -> Result<(), Fail> {
+    let alloc = rt.alloc();
+    for (json, said) in [
+        ("null", "null"),
+        ("-7", "-7"),
+        ("1000000000000", "1000000000000"),
+        ("1000000000001", "OutOfRange"),
+        ("-1000000000001", "OutOfRange"),
+        ("18446744073709551615", "OutOfRange"),
+        ("99999999999999999999", "NotWhole"),
+        ("1e2", "NotWhole"),
+        ("1.5", "NotWhole"),
+        ("\"7\"", "NotWhole"),
+    ] {
+        let found = cell_said(alloc, ColKind::Number, json)?;
+        same(&rt, found.as_str(), said, json);
+    }
+    Ok(())
+}
+
+#[test]
+fn cells_of_checks_and_none(rt: HostRuntime) -> Result<(), Fail> {
+    let alloc = rt.alloc();
+    for (kind, json, said) in [
+        (ColKind::Check, "null", "null"),
+        (ColKind::Check, "true", "true"),
+        (ColKind::Check, "false", "false"),
+        (ColKind::Check, "1", "NotCheck"),
+        (ColKind::Link, "null", "NotWritable"),
+        (ColKind::Link, "[\"r1\"]", "NotWritable"),
+        (ColKind::Made, "null", "NotWritable"),
+        (ColKind::Changed, "null", "NotWritable"),
+    ] {
+        same(&rt, cell_said(alloc, kind, json)?.as_str(), said, json);
+    }
+    Ok(())
+}
+
+#[test]
+fn cells_of_dates(rt: HostRuntime) -> Result<(), Fail> {
+    let alloc = rt.alloc();
+    for (json, said) in [
+        ("null", "null"),
+        ("\"2024-02-29\"", "\"2024-02-29\""),
+        ("\"2024-02-29 00:00\"", "\"2024-02-29\""),
+        ("\"2024-02-29T00:01\"", "\"2024-02-29 00:01\""),
+        ("\"2023-02-29\"", "BadDate"),
+        ("\"2024-02-29 24:00\"", "BadDate"),
+        ("\"\"", "BadDate"),
+        ("20240229", "NotText"),
+    ] {
+        let found = cell_said(alloc, ColKind::Date, json)?;
+        same(&rt, found.as_str(), said, json);
+    }
+    Ok(())
+}
+
+#[test]
+fn cells_of_lists(rt: HostRuntime) -> Result<(), Fail> {
+    let alloc = rt.alloc();
+    for (kind, json, said) in [
+        (ColKind::Multi, "null", "null"),
+        (ColKind::Multi, "[]", "null"),
+        (
+            ColKind::Multi,
+            "[\"red\",\"blue\",\"red\"]",
+            "[\"red\",\"blue\"]",
+        ),
+        (ColKind::Multi, "[\"red\",\"green\"]", "NoOption"),
+        (ColKind::Multi, "[\"\"]", "NoOption"),
+        (ColKind::Multi, "\"red\"", "NotList"),
+        (ColKind::People, "[]", "null"),
+        (ColKind::People, "[\"Bo\",\"\",\"Bo\"]", "[\"Bo\",\"\"]"),
+        (ColKind::People, "[\"Bo\",1]", "NotList"),
+    ] {
+        same(&rt, cell_said(alloc, kind, json)?.as_str(), said, json);
+    }
+    Ok(())
+}
+
+// An array of the decimals below `count`, and then one text more.
+fn numbered(alloc: Global, count: u32, last: &str) -> Result<String, AllocError> {
+    let mut json = String::from_str(alloc, "[")?;
+    for number in 0..count {
+        json.push_str(format!(in alloc; "\"{number}\",")?.as_str())?;
+    }
+    json.push_str(format!(in alloc; "\"{last}\"]")?.as_str())?;
+    Ok(json)
+}
+
+#[test]
+fn longest_lists(rt: HostRuntime) -> Result<(), Fail> {
+    let alloc = rt.alloc();
+    let (most, above) = (repeated(alloc, "x", 64)?, repeated(alloc, "x", 65)?);
+    for (kind, count, last, said) in [
+        (ColKind::People, 63, "Bo", ""),
+        (ColKind::People, 64, "Bo", "TooLong"),
+        (ColKind::People, 63, most.as_str(), ""),
+        (ColKind::People, 1, above.as_str(), "TooLong"),
+        (ColKind::Multi, 63, "red", "NoOption"),
+        (ColKind::Multi, 64, "red", "TooLong"),
+        (ColKind::Multi, 64, "0", "NoOption"),
+    ] {
+        let json = numbered(alloc, count, last)?;
+        let said = if said.is_empty() { json.as_str() } else { said };
+        let found = cell_said(alloc, kind, json.as_str())?;
+        same(&rt, found.as_str(), said, json.as_str());
+    }
+    // 65 items, of which 64 differ
+    let found = cell_said(alloc, ColKind::People, numbered(alloc, 64, "7")?.as_str())?;
+    same(
+        &rt,
+        found.as_str(),
+        numbered(alloc, 63, "63")?.as_str(),
+        "a repeat",
+    );
+    Ok(())
+}
+
+#[test]
+fn texts_once(rt: HostRuntime) -> Result<(), Fail> {
+    let alloc = rt.alloc();
+    let texts = texts_of(alloc, &["b", "a", "b", "", "ab", "a", ""])?;
+    let kept = without_repeats(alloc, texts.as_slice())?;
+    let shown = listed(alloc, kept.as_slice())?;
+    same(&rt, shown.as_str(), "b|a||ab|", "texts once");
+    no_text_goes_or_stays_twice();
+    let (b, a) = (Text::copy_of(alloc, "b")?, Text::copy_of(alloc, "a")?);
+    assert_eq!(rt; (a < b, b < a, a == b, a == a), (true, false, false, true));
+    Ok(())
+}
+
+#[test]
+fn links_as_arrays_of_ids(rt: HostRuntime) -> Result<(), Fail> {
+    let alloc = rt.alloc();
+    let mut ids = Ids::new(alloc);
+    ids.push(RowId(Text::copy_of(alloc, "r2")?))?;
+    ids.push(RowId(Text::copy_of(alloc, "r1")?))?;
+    let json = json_of_cell(alloc, &CellValue::Links(ids))?.to_string(alloc)?;
+    same(&rt, json.as_str(), "[\"r2\",\"r1\"]", "links");
+    Ok(())
+}
+
+// The sort of a type, by its name.
+fn sort_name(kind: ColKind) -> &'static str {
+    match sort_of(kind) {
+        Sort::Text => "Text",
+        Sort::Number => "Number",
+        Sort::Check => "Check",
+        Sort::Moment => "Moment",
+        Sort::List => "List",
+    }
+}
+
+#[test]
+fn words_of_types(rt: HostRuntime) -> Result<(), Fail> {
+    words_name_kinds();
+    for (word, sort) in [
+        ("text", "Text"),
+        ("long-text", "Text"),
+        ("number", "Number"),
+        ("checkbox", "Check"),
+        ("date", "Moment"),
+        ("single-select", "Text"),
+        ("multiple-select", "List"),
+        ("collaborator", "List"),
+        ("link", "List"),
+        ("ctime", "Moment"),
+        ("mtime", "Moment"),
+        ("", ""),
+        ("Text", ""),
+        ("texts", ""),
+        ("formula", ""),
+    ] {
+        let kind = kind_of_word(word);
+        same(&rt, kind.map_or("", sort_name), sort, word);
+        same(&rt, kind.map_or(word, type_word), word, word);
     }
     Ok(())
 }
@@ -222,14 +418,85 @@ fn bytes_of_rows(rt: HostRuntime) -> Result<(), Fail> {
     Ok(())
 }
 
+// The bytes of a row of the id `r` with one cell.
+fn bytes_with(alloc: Global, value: CellValue) -> Result<u64, AllocError> {
+    let mut row = row_of(alloc, "r", 0, 0, "")?;
+    row.cells.set(ColKey(3), value)?;
+    Ok(row_bytes(&row))
+}
+
+#[test]
+fn bytes_of_values(rt: HostRuntime) -> Result<(), Fail> {
+    let alloc = rt.alloc();
+    for (kind, json, bytes) in [
+        (ColKind::Text, "\"é\"", 27 + 11),
+        (ColKind::Select, "\"blue\"", 27 + 13),
+        (ColKind::Number, "0", 27 + 13),
+        (ColKind::Check, "false", 27 + 6),
+        (ColKind::Date, "\"2024-02-29\"", 27 + 13),
+        (ColKind::Multi, "[\"red\",\"blue\"]", 27 + 6 + 7 + 8),
+        (ColKind::People, "[\"é\",\"\"]", 27 + 6 + 6 + 4),
+    ] {
+        let word = word_of_json(alloc, &Value::from_str(alloc, json)?)?;
+        let cell = cell_of_json(alloc, &column_of(alloc, kind)?, &word);
+        let bytes_found = bytes_with(alloc, cell.unwrap_or(CellValue::Empty))?;
+        assert_eq!(rt; bytes_found, bytes, "{json}");
+    }
+    Ok(())
+}
+
+// So many empty texts.
+fn empty_texts(alloc: Global, count: u32) -> Result<Texts, AllocError> {
+    let mut texts = Texts::new(alloc);
+    for _ in 0..count {
+        texts.push(Text::copy_of(alloc, "")?)?;
+    }
+    Ok(texts)
+}
+
+#[test]
+fn bytes_at_the_ends(rt: HostRuntime) -> Result<(), Fail> {
+    let alloc = rt.alloc();
+    for (units, bytes) in [
+        (1_000_000_000_000, 40),
+        (1_000_000_000_001, u64::MAX),
+        (-1_000_000_000_000, 40),
+        (-1_000_000_000_001, u64::MAX),
+    ] {
+        assert_eq!(rt;
+            bytes_with(alloc, CellValue::Number(units))?,
+            bytes,
+            "{units} units"
+        );
+    }
+    for (at, bytes) in [
+        (FIRST, 40),
+        (FIRST - 1, u64::MAX),
+        (LAST, 40),
+        (LAST + 1, u64::MAX),
+    ] {
+        assert_eq!(rt;
+            bytes_with(alloc, CellValue::Moment(Moment(at)))?,
+            bytes,
+            "at {at}"
+        );
+    }
+    for (count, bytes) in [(255, 27 + 6 + 255 * 4), (256, u64::MAX)] {
+        let names = CellValue::Names(empty_texts(alloc, count)?);
+        assert_eq!(rt; bytes_with(alloc, names)?, bytes, "{count} names");
+    }
+    assert_eq!(rt;
+        bytes_with(alloc, CellValue::Links(Ids::new(alloc)))?,
+        u64::MAX
+    );
+    Ok(())
+}
+
 #[test]
 fn rows_without_encoding(rt: HostRuntime) -> Result<(), Fail> {
     let alloc = rt.alloc();
     let mut row = row_of(alloc, "r1", 0, 1, "Alice")?;
     row.changed = Moment(LAST + 1);
-    assert_eq!(rt; row_bytes(&row), u64::MAX);
-    row.changed = Moment(0);
-    row.cells.set(ColKey(0), CellValue::Number(1))?;
     assert_eq!(rt; row_bytes(&row), u64::MAX);
     Ok(())
 }

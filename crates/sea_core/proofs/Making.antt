@@ -20,6 +20,7 @@ use Rattle.sea_core.specs.Taking.{TakesRecord}
 applied-version : (base : Plain) (moment : Moment) (op : Op) → (applied base moment op).version ≡ base.version + 1
 applied-version base moment (InsertTable table columns) = refl
 applied-version base moment (AppendRows table rows) = refl
+applied-version base moment _ = refl
 
 -- what isn't refused is the new base
 not_refused : (refusal : Option OpRefusal) (base next : Plain) → unless_refused refusal base ≡ Ok next → base ≡ next

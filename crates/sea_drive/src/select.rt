@@ -6,7 +6,7 @@ ghost use Rattle.sea_drive.specs.Select.{select_of, is_keyword as is_keyword_of,
 
 use crate::outcome::{Answer, AnswerRow, AnswerRows};
 use crate::texts::stripped;
-use sea_cell::{CellValue, Column, Duplicate, Row, Texts};
+use sea_cell::{CellValue, Column, Duplicate, Row, Shared, Texts};
 use sea_plain::PlainTable;
 use sqlite_items::Items;
 use std::alloc::{AllocError, Global};
@@ -92,7 +92,7 @@ pub fn answer_of(alloc: Global, table: &PlainTable) -> Result<Answer, AllocError
 }
 
 // The first rows, at most so many.
-fn front_of(rows: &[Row], most: usize) -> &[Row]
+fn front_of(rows: &[Shared<Row>], most: usize) -> &[Shared<Row>]
     ensures { result.now ≡ take most rows.now }
 {
     if rows.len() > most {
@@ -111,12 +111,16 @@ fn names_of(alloc: Global, columns: &[Column]) -> Result<Texts, AllocError>
     Ok(names)
 }
 
-fn cells_of_rows(alloc: Global, columns: &[Column], rows: &[Row]) -> Result<AnswerRows, AllocError>
+fn cells_of_rows(
+    alloc: Global,
+    columns: &[Column],
+    rows: &[Shared<Row>],
+) -> Result<AnswerRows, AllocError>
     ensures { IfOk result (λ all. all ≡ map (λ row. map (cell_for row) columns.now) rows.now) }
 {
     let mut all = Items::new(alloc);
     for row in rows {
-        all.push(cells_of_row(alloc, columns, row)?)?;
+        all.push(cells_of_row(alloc, columns, row.get())?)?;
     }
     Ok(all)
 }

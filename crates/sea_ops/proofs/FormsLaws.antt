@@ -9,7 +9,7 @@ use Rattle.sea_ops.specs.Operations.{op_of, op_of_json}
 use Rattle.sea_ops.specs.Texts.{json_of, text_of}
 use Rattle.sea_ops.proofs.DataRead.{sound-read}
 use Rattle.sea_ops.proofs.OperationsLaws.{op_of-utf8}
-use Rattle.sea_ops.proofs.OpsAgain.{ComesAgain, comes_again}
+use Rattle.sea_ops.proofs.OpsForms.{ComesAgain, comes_again}
 use Rattle.sea_ops.proofs.TextsAgain.{read-compact_text, IsUtf8-compact_text}
 use Rattle.sea_ops.proofs.TextsLaws.{has_float-json_of, depth-json_of}
 

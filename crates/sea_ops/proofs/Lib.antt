@@ -5,6 +5,7 @@ pub mod TokensRead
 pub mod DataRead
 pub mod TextsAgain
 pub mod OpsAgain
+pub mod OpsForms
 pub mod FormsLaws
 pub mod RecordLaws
 pub mod RecordEntries

@@ -1,4 +1,4 @@
--- The JSON of an operation that was read is sound, and is that operation.
+-- The JSON of a word, a row, a column or a view that was read is sound, and is the same again.
 use Rattle.std.proofs.Common.{◌≡◌, ℕ, pos, negsuc, List, [], ◌∷◌, map, Bool, true, false, cond, Option, Some, None, option_map, option_and_then, codes, IsUtf8, Ordering, Less, Equal, Greater, nat_cmp, is_eq, refl, sym, ap, ap₂, ◌∙◌, subst, lt-ltb}
 use Rattle.std.proofs.lemmas.Map.Text.{is_eq-slice_cmp}
 use Rattle.std.specs.Cmp.Lexicographic.{slice_cmp}
@@ -9,23 +9,52 @@ use Rattle.serde_json.specs.Data.{Num, unsigned, negative, float, Data, null, bo
 use Rattle.serde_json.specs.Find.{get, get_member, as_str, as_array, as_integer}
 use Rattle.serde_json.specs.View.{items_of}
 use Rattle.serde_json.proofs.Views.{get_member-put}
+use Rattle.sea_cell.specs.Kinds.{kind_of}
 use Rattle.sea_cell.specs.Words.{texts_of, or_odd, word_of}
+use Rattle.sea_cell.specs.declared.keys.RowId.{RowId}
+use Rattle.sea_cell.specs.declared.layout.ColKind.{ColKind}
+use Rattle.sea_cell.specs.declared.layout.ColKind.TheVariants as kind
 use Rattle.sea_cell.specs.declared.layout.NewColumn.{NewColumn}
 use Rattle.sea_cell.specs.declared.words.CellWord.{CellWord}
 use Rattle.sea_cell.specs.declared.words.CellWord.TheVariants.{Whole, List as TextList, Odd}
 use Rattle.sea_plain.specs.declared.operation.NamedCell.{NamedCell}
+use Rattle.sea_plain.specs.declared.operation.NewFilter.{NewFilter}
+use Rattle.sea_plain.specs.declared.operation.NewView.{NewView}
 use Rattle.sea_plain.specs.declared.operation.OpRow.{OpRow}
-use Rattle.sea_plain.specs.declared.operation.Op.{Op}
-use Rattle.sea_plain.specs.declared.operation.Op.TheVariants.{InsertTable, AppendRows}
-use Rattle.sea_ops.specs.Operations.{text_at, each_of, unless_empty, text_column, column_of_json, cells_of_members, row_with_id, row_of_json, is_form, insert_table_of, append_rows_of, op_of_json}
-use Rattle.sea_ops.specs.Texts.{is_whole, odd, json_of_word, with_cells, row_json, column_json, json_of}
+use Rattle.sea_plain.specs.declared.operation.RowChange.{RowChange}
+use Rattle.sea_ops.specs.Operations.{has_members, count_at, text_at, items_at, texts_at, ids_at, row_id, each_of, each_at, unit_of, options_of, plain_column, number_column, select_column, link_column, plain_of, number_of, select_of, link_of, column_of_kind, column_of_json, cells_of_members, row_with_id, row_of_json, change_of_row, change_of_json, conjunction_of, new_filter, filter_of_json, new_view, view_of_json, where_}
+use Rattle.sea_ops.specs.Texts.{is_whole, odd, json_of_word, with_cells, row_json, change_json, column_of_kind_json, column_json, conjunction_word, filter_json, view_json}
 use Rattle.sea_ops.proofs.DataRead.{IsSoundNumber, IsBelow, IsSound, AreSoundItems, AreSoundMembers, sound-put, If, if-map, if-and_then}
 use Rattle.sea_ops.proofs.TextsAgain.{joined, joined-none, joined-joined, Precede, precede-joined, put-last}
 
 -- either of two
-if-cond : {A : Type 0} (P : A → Type 0) (b : Bool) (x y : Option A) → (b ≡ true → If P x) → If P y → If P (cond b x y)
+pub if-cond : {A : Type 0} (P : A → Type 0) (b : Bool) (x y : Option A) → (b ≡ true → If P x) → If P y → If P (cond b x y)
 if-cond P true x y h k = h refl
 if-cond P false x y h k = k
+
+-- what passes a test is what passes it again
+pub fine-where : {A : Type 0} (P : A → Type 0) (test : A → Bool) (x : A) → P x → If (λ y. P y × (where_ test y ≡ Some y)) (where_ test x)
+fine-where P test x p = if-cond (λ y. P y × (where_ test y ≡ Some y)) (test x) (Some x) None (λ e. (p, ap (λ (b : Bool). cond b (Some x) None) e)) tt
+
+-- ---- what is read and written, alone and in lists
+
+-- what is written is sound, and is read again
+pub record IsFineBy {X : Type 0} (f : Data → Option X) (g : X → Data) (x : X) : Type 0 where
+  pub sound : IsSound (g x)
+  pub again : f (g x) ≡ Some x
+
+-- the same of a list
+pub record AreFineBy {X : Type 0} (f : Data → Option X) (g : X → Data) (xs : List X) : Type 0 where
+  pub sound : AreSoundItems (items_of (map g xs))
+  pub again : each_of f (items_of (map g xs)) ≡ Some xs
+
+fine-cons : {X : Type 0} (f : Data → Option X) (g : X → Data) (x : X) (xs : List X) → IsFineBy f g x → AreFineBy f g xs → AreFineBy f g (x ∷ xs)
+fine-cons f g x xs one more = record { sound = (one.sound, more.sound); again = rw (one.again, more.again) refl }
+
+pub fine-each : {X : Type 0} (f : Data → Option X) (g : X → Data) → ((d : Data) → IsSound d → If (IsFineBy f g) (f d)) → (ds : Items) → AreSoundItems ds → If (AreFineBy f g) (each_of f ds)
+fine-each f g fine no_items s = record { sound = tt; again = refl }
+fine-each f g fine (item d ds) s =
+    if-and_then (IsFineBy f g) (AreFineBy f g) _ (λ x k. if-map (AreFineBy f g) (AreFineBy f g) (λ xs. x ∷ xs) (λ xs l. fine-cons f g x xs k l) (each_of f ds) (fine-each f g fine ds s.1)) (f d) (fine d s.0)
 
 -- ---- words
 
@@ -35,14 +64,14 @@ record IsFineWord (word : CellWord) : Type 0 where
   again : word_of (json_of_word word) ≡ word
 
 -- the texts of an array that are all its items
-texts-again : (texts : List (List ℕ)) → texts_of (items_of (map string texts)) ≡ Some texts
+pub texts-again : (texts : List (List ℕ)) → texts_of (items_of (map string texts)) ≡ Some texts
 texts-again [] = refl
 texts-again (text ∷ texts) = rw (texts-again texts) refl
 
-abbrev AreSoundTexts : List (List ℕ) → Type 0
+abbrev pub AreSoundTexts : List (List ℕ) → Type 0
 AreSoundTexts texts = AreSoundItems (items_of (map string texts))
 
-sound-as_str : (d : Data) → IsSound d → If IsUtf8 (as_str d)
+pub sound-as_str : (d : Data) → IsSound d → If IsUtf8 (as_str d)
 sound-as_str null s = tt
 sound-as_str (boolean b) s = tt
 sound-as_str (number n) s = tt
@@ -50,7 +79,7 @@ sound-as_str (string t) s = s
 sound-as_str (array ds) s = tt
 sound-as_str (object ms) s = tt
 
-sound-texts : (ds : Items) → AreSoundItems ds → If AreSoundTexts (texts_of ds)
+pub sound-texts : (ds : Items) → AreSoundItems ds → If AreSoundTexts (texts_of ds)
 sound-texts no_items s = tt
 sound-texts (item d ds) s =
     if-and_then IsUtf8 AreSoundTexts _ (λ text u. if-map AreSoundTexts AreSoundTexts (λ texts. text ∷ texts) (λ texts k. (u, k)) (texts_of ds) (sound-texts ds s.1)) (as_str d) (sound-as_str d s.0)
@@ -155,13 +184,14 @@ cells-put_id d (member l e ms) = place (slice_cmp nat_cmp (codes "_id") l) (is_e
 
 -- ---- rows
 
+-- one fact of what there is from another
+if-all : {A : Type 0} (P Q : A → Type 0) → ((a : A) → P a → Q a) → (o : Option A) → If P o → If Q o
+if-all P Q f None h = tt
+if-all P Q f (Some a) h = f a h
+
 record IsFineRow (row : OpRow) : Type 0 where
   id : If IsUtf8 row.id
   cells : AreFineCells row.cells
-
-abbrev AreFineRows : List OpRow → Type 0
-AreFineRows [] = Unit {0}
-AreFineRows (row ∷ rows) = IsFineRow row × AreFineRows rows
 
 sound-get_member : (k : List ℕ) (ms : Members) → AreSoundMembers ms → If IsSound (get_member k ms)
 sound-get_member k no_members s = tt
@@ -198,28 +228,20 @@ sound-row None cells u f = subst AreSoundMembers (sym (with_cells-plain cells no
 sound-row (Some text) cells u f =
     sound-put (codes "_id") (string text) _ (IsUtf8-are_ascii (codes "_id") refl) u (subst AreSoundMembers (sym (with_cells-plain cells no_members f tt)) (sound-plain cells f))
 
-fine-rows : (ds : Items) → AreSoundItems ds → If AreFineRows (each_of row_of_json ds)
-fine-rows no_items s = tt
-fine-rows (item d ds) s =
-    if-and_then IsFineRow AreFineRows _ (λ row k. if-map AreFineRows AreFineRows (λ rows. row ∷ rows) (λ rows l. (k, l)) (each_of row_of_json ds) (fine-rows ds s.1)) (row_of_json d) (fine-row d s.0)
+-- a row that was read
+pub fine-by_row : (d : Data) → IsSound d → If (IsFineBy row_of_json row_json) (row_of_json d)
+fine-by_row d s =
+    if-all IsFineRow (IsFineBy row_of_json row_json) (λ row f. record { sound = sound-row row.id row.cells f.id f.cells; again = row-again row.id row.cells f.cells }) (row_of_json d) (fine-row d s)
 
-rows-again : (rows : List OpRow) → AreFineRows rows → each_of row_of_json (items_of (map row_json rows)) ≡ Some rows
-rows-again [] f = refl
-rows-again (row ∷ rows) f = rw (row-again row.id row.cells f.0.cells, rows-again rows f.1) refl
+fine-change_of_row : (id : Option (List ℕ)) (cells : List NamedCell) → If IsUtf8 id → AreFineCells cells → If (IsFineBy change_of_json change_json) (change_of_row (record { id = id; cells = cells }))
+fine-change_of_row None cells u f = tt
+fine-change_of_row (Some id) cells u f = record { sound = sound-row (Some id) cells u f; again = ap (option_and_then change_of_row) (row-again (Some id) cells f) }
 
-sound-rows : (rows : List OpRow) → AreFineRows rows → AreSoundItems (items_of (map row_json rows))
-sound-rows [] f = tt
-sound-rows (row ∷ rows) f = (sound-row row.id row.cells f.0.id f.0.cells, sound-rows rows f.1)
+-- a change of a row that was read
+pub fine-by_change : (d : Data) → IsSound d → If (IsFineBy change_of_json change_json) (change_of_json d)
+fine-by_change d s = if-and_then IsFineRow (IsFineBy change_of_json change_json) change_of_row (λ row f. fine-change_of_row row.id row.cells f.id f.cells) (row_of_json d) (fine-row d s)
 
--- ---- columns
-
-record IsFineColumn (column : NewColumn) : Type 0 where
-  text : column ≡ text_column column.name
-  name : IsUtf8 column.name
-
-abbrev AreFineColumns : List NewColumn → Type 0
-AreFineColumns [] = Unit {0}
-AreFineColumns (column ∷ columns) = IsFineColumn column × AreFineColumns columns
+-- ---- members
 
 sound-get : (k : List ℕ) (d : Data) → IsSound d → If IsSound (get k d)
 sound-get k null s = tt
@@ -229,7 +251,7 @@ sound-get k (string t) s = tt
 sound-get k (array ds) s = tt
 sound-get k (object ms) s = sound-get_member k ms s
 
-sound-text_at : (k : List ℕ) (d : Data) → IsSound d → If IsUtf8 (text_at k d)
+pub sound-text_at : (k : List ℕ) (d : Data) → IsSound d → If IsUtf8 (text_at k d)
 sound-text_at k d s = if-and_then IsSound IsUtf8 as_str sound-as_str (get k d) (sound-get k d s)
 
 sound-as_array : (d : Data) → IsSound d → If AreSoundItems (as_array d)
@@ -240,92 +262,172 @@ sound-as_array (string t) s = tt
 sound-as_array (array ds) s = s
 sound-as_array (object ms) s = tt
 
-sound-array_at : (k : List ℕ) (d : Data) → IsSound d → If AreSoundItems (option_and_then as_array (get k d))
-sound-array_at k d s = if-and_then IsSound AreSoundItems as_array sound-as_array (get k d) (sound-get k d s)
+sound-items_at : (k : List ℕ) (d : Data) → IsSound d → If AreSoundItems (items_at k d)
+sound-items_at k d s = if-and_then IsSound AreSoundItems as_array sound-as_array (get k d) (sound-get k d s)
 
-fine-column : (d : Data) → IsSound d → If IsFineColumn (column_of_json d)
+pub sound-texts_at : (k : List ℕ) (d : Data) → IsSound d → If AreSoundTexts (texts_at k d)
+sound-texts_at k d s = if-and_then AreSoundItems AreSoundTexts texts_of sound-texts (items_at k d) (sound-items_at k d s)
+
+-- a list under a name
+pub fine-each_at : {X : Type 0} (f : Data → Option X) (g : X → Data) → ((d : Data) → IsSound d → If (IsFineBy f g) (f d)) → (k : List ℕ) (d : Data) → IsSound d → If (AreFineBy f g) (each_at f k d)
+fine-each_at f g fine k d s = if-and_then AreSoundItems (AreFineBy f g) (each_of f) (fine-each f g fine) (items_at k d) (sound-items_at k d s)
+
+-- what is read of the value under a name
+pub fine-at : {X : Type 0} (f : Data → Option X) (g : X → Data) → ((d : Data) → IsSound d → If (IsFineBy f g) (f d)) → (k : List ℕ) (d : Data) → IsSound d → If (IsFineBy f g) (option_and_then f (get k d))
+fine-at f g fine k d s = if-and_then IsSound (IsFineBy f g) f fine (get k d) (sound-get k d s)
+
+-- ---- ids
+
+-- the array of ids
+abbrev pub id_items : List RowId → Items
+id_items ids = items_of (map (λ id. string id.0) ids)
+
+pub record AreFineIds (ids : List RowId) : Type 0 where
+  pub sound : AreSoundItems (id_items ids)
+  pub again : option_map (map row_id) (texts_of (id_items ids)) ≡ Some ids
+
+ids-texts : (texts : List (List ℕ)) → id_items (map row_id texts) ≡ items_of (map string texts)
+ids-texts [] = refl
+ids-texts (text ∷ texts) = ap (λ (items : Items). item (string text) items) (ids-texts texts)
+
+fine-ids : (texts : List (List ℕ)) → AreSoundTexts texts → AreFineIds (map row_id texts)
+fine-ids texts s = record {
+  sound = subst AreSoundItems (sym (ids-texts texts)) s;
+  again = ap (λ (items : Items). option_map (map row_id) (texts_of items)) (ids-texts texts) ∙ ap (option_map (map row_id)) (texts-again texts);
+}
+
+pub fine-ids_at : (k : List ℕ) (d : Data) → IsSound d → If AreFineIds (ids_at k d)
+fine-ids_at k d s = if-map AreSoundTexts AreFineIds (map row_id) fine-ids (texts_at k d) (sound-texts_at k d s)
+
+-- ---- columns
+
+abbrev IsFineColumn : NewColumn → Type 0
+IsFineColumn column = IsFineBy column_of_json column_json column
+
+-- words are ASCII
+name_word : IsUtf8 (codes "name")
+name_word = IsUtf8-are_ascii (codes "name") refl
+
+type_name : IsUtf8 (codes "type")
+type_name = IsUtf8-are_ascii (codes "type") refl
+
+-- a column of a type that has nothing beside its name
+plain_sound : (word name : List ℕ) → IsUtf8 word → IsUtf8 name → IsSound (object (member (codes "name") (string name) (member (codes "type") (string word) no_members)))
+plain_sound word name w u = (name_word, u, (refl, tt), (type_name, w, tt, tt))
+
+fine-plain : (it : ColKind) (d : Data) (name : List ℕ) → IsFineColumn (plain_column it name) → If IsFineColumn (plain_of it d name)
+fine-plain it d name f = if-cond IsFineColumn (has_members 2 d) (Some (plain_column it name)) None (λ _. f) tt
+
+sound-unit : (o : Option Data) → If IsSound o → If IsUtf8 (unit_of o)
+sound-unit None s = IsUtf8-are_ascii [] refl
+sound-unit (Some d) s = sound-as_str d s
+
+fine-number_column : (name unit : List ℕ) → IsUtf8 name → IsUtf8 unit → IsFineColumn (number_column name unit)
+unfolding column_of_kind column_of_kind_json
+fine-number_column name unit u v = record {
+  sound = (name_word, u, (refl, (refl, tt)), (type_name, IsUtf8-are_ascii (codes "number") refl, (refl, tt), (IsUtf8-are_ascii (codes "unit") refl, v, tt, tt)));
+  again = refl;
+}
+
+fine-number_of : (d : Data) (name : List ℕ) → IsSound d → IsUtf8 name → If IsFineColumn (number_of d name)
+fine-number_of d name s u =
+    if-cond IsFineColumn _ _ None (λ _. if-map IsUtf8 IsFineColumn (number_column name) (λ unit v. fine-number_column name unit u v) (unit_of (get (codes "unit") d)) (sound-unit (get (codes "unit") d) (sound-get (codes "unit") d s))) tt
+
+sound-options : (o : Option Data) → If IsSound o → If AreSoundTexts (options_of o)
+sound-options None s = tt
+sound-options (Some d) s = if-and_then AreSoundItems AreSoundTexts texts_of sound-texts (as_array d) (sound-as_array d s)
+
+select_sound : (word name : List ℕ) (options : List (List ℕ)) → IsUtf8 word → IsUtf8 name → AreSoundTexts options → IsSound (object (member (codes "name") (string name) (member (codes "options") (array (items_of (map string options))) (member (codes "type") (string word) no_members))))
+select_sound word name options w u v = (name_word, u, (refl, (refl, tt)), (IsUtf8-are_ascii (codes "options") refl, v, (refl, tt), (type_name, w, tt, tt)))
+
+fine-select : (name : List ℕ) (options : List (List ℕ)) → IsUtf8 name → AreSoundTexts options → IsFineColumn (select_column kind.Select name options)
+unfolding column_of_kind column_of_kind_json
+fine-select name options u v = record {
+  sound = select_sound (codes "single-select") name options (IsUtf8-are_ascii (codes "single-select") refl) u v;
+  again = ap (option_map (select_column kind.Select name)) (texts-again options);
+}
+
+fine-multi : (name : List ℕ) (options : List (List ℕ)) → IsUtf8 name → AreSoundTexts options → IsFineColumn (select_column kind.Multi name options)
+unfolding column_of_kind column_of_kind_json
+fine-multi name options u v = record {
+  sound = select_sound (codes "multiple-select") name options (IsUtf8-are_ascii (codes "multiple-select") refl) u v;
+  again = ap (option_map (select_column kind.Multi name)) (texts-again options);
+}
+
+fine-select_of : (it : ColKind) (d : Data) (name : List ℕ) → IsSound d → ((options : List (List ℕ)) → AreSoundTexts options → IsFineColumn (select_column it name options)) → If IsFineColumn (select_of it d name)
+fine-select_of it d name s f =
+    if-cond IsFineColumn _ _ None (λ _. if-map AreSoundTexts IsFineColumn (select_column it name) f (options_of (get (codes "options") d)) (sound-options (get (codes "options") d) (sound-get (codes "options") d s))) tt
+
+fine-link : (name table other : List ℕ) → IsUtf8 name → IsUtf8 table → IsUtf8 other → IsFineColumn (link_column name table other)
+unfolding column_of_kind column_of_kind_json
+fine-link name table other u v w = record {
+  sound = (
+    name_word,
+    u,
+    (refl, (refl, (refl, tt))),
+    (IsUtf8-are_ascii (codes "other") refl, v, (refl, (refl, tt)), (IsUtf8-are_ascii (codes "other_name") refl, w, (refl, tt), (type_name, IsUtf8-are_ascii (codes "link") refl, tt, tt))),
+  );
+  again = refl;
+}
+
+fine-link_of : (d : Data) (name : List ℕ) → IsSound d → IsUtf8 name → If IsFineColumn (link_of d name)
+fine-link_of d name s u =
+    if-cond IsFineColumn _ _ None (λ _. if-and_then IsUtf8 IsFineColumn _ (λ table v. if-map IsUtf8 IsFineColumn (link_column name table) (λ other w. fine-link name table other u v w) (text_at (codes "other_name") d) (sound-text_at (codes "other_name") d s)) (text_at (codes "other") d) (sound-text_at (codes "other") d s)) tt
+
+fine-of_kind : (it : ColKind) (d : Data) (name : List ℕ) → IsSound d → IsUtf8 name → If IsFineColumn (column_of_kind it d name)
+unfolding column_of_kind column_of_kind_json
+fine-of_kind kind.Text d name s u = fine-plain kind.Text d name (record { sound = plain_sound (codes "text") name (IsUtf8-are_ascii (codes "text") refl) u; again = refl })
+fine-of_kind kind.LongText d name s u = fine-plain kind.LongText d name (record { sound = plain_sound (codes "long-text") name (IsUtf8-are_ascii (codes "long-text") refl) u; again = refl })
+fine-of_kind kind.Number d name s u = fine-number_of d name s u
+fine-of_kind kind.Check d name s u = fine-plain kind.Check d name (record { sound = plain_sound (codes "checkbox") name (IsUtf8-are_ascii (codes "checkbox") refl) u; again = refl })
+fine-of_kind kind.Date d name s u = fine-plain kind.Date d name (record { sound = plain_sound (codes "date") name (IsUtf8-are_ascii (codes "date") refl) u; again = refl })
+fine-of_kind kind.Select d name s u = fine-select_of kind.Select d name s (λ options v. fine-select name options u v)
+fine-of_kind kind.Multi d name s u = fine-select_of kind.Multi d name s (λ options v. fine-multi name options u v)
+fine-of_kind kind.People d name s u = fine-plain kind.People d name (record { sound = plain_sound (codes "collaborator") name (IsUtf8-are_ascii (codes "collaborator") refl) u; again = refl })
+fine-of_kind kind.Link d name s u = fine-link_of d name s u
+fine-of_kind kind.Made d name s u = fine-plain kind.Made d name (record { sound = plain_sound (codes "ctime") name (IsUtf8-are_ascii (codes "ctime") refl) u; again = refl })
+fine-of_kind kind.Changed d name s u = fine-plain kind.Changed d name (record { sound = plain_sound (codes "mtime") name (IsUtf8-are_ascii (codes "mtime") refl) u; again = refl })
+
+if-any : {A : Type 0} (o : Option A) → If (λ (x : A). Unit {0}) o
+if-any None = tt
+if-any (Some x) = tt
+
+-- a column that was read
+pub fine-column : (d : Data) → IsSound d → If IsFineColumn (column_of_json d)
 fine-column d s =
-    if-cond IsFineColumn _ _ None (λ _. if-map IsUtf8 IsFineColumn text_column (λ name u. record { text = refl; name = u }) (text_at (codes "name") d) (sound-text_at (codes "name") d s)) tt
+    if-and_then (λ (it : ColKind). Unit {0}) IsFineColumn _ (λ it _. if-and_then IsUtf8 IsFineColumn (column_of_kind it d) (λ name u. fine-of_kind it d name s u) (text_at (codes "name") d) (sound-text_at (codes "name") d s)) (option_and_then kind_of (text_at (codes "type") d)) (if-any (option_and_then kind_of (text_at (codes "type") d)))
 
-fine-columns : (ds : Items) → AreSoundItems ds → If AreFineColumns (each_of column_of_json ds)
-fine-columns no_items s = tt
-fine-columns (item d ds) s =
-    if-and_then IsFineColumn AreFineColumns _ (λ column k. if-map AreFineColumns AreFineColumns (λ columns. column ∷ columns) (λ columns l. (k, l)) (each_of column_of_json ds) (fine-columns ds s.1)) (column_of_json d) (fine-column d s.0)
+-- ---- views
 
-columns-again : (columns : List NewColumn) → AreFineColumns columns → each_of column_of_json (items_of (map column_json columns)) ≡ Some columns
-columns-again [] f = refl
-columns-again (column ∷ columns) f = rw (columns-again columns f.1) (ap (λ (first : NewColumn). Some (first ∷ columns)) (sym f.0.text))
+fine-new_filter : (column predicate : List ℕ) (d : Data) → IsUtf8 column → IsUtf8 predicate → IsSound d → IsFineBy filter_of_json filter_json (new_filter column predicate d)
+fine-new_filter column predicate d u v s =
+    let word = fine-word d s in
+    record {
+      sound = (IsUtf8-are_ascii (codes "column") refl, u, (refl, (refl, tt)), (IsUtf8-are_ascii (codes "predicate") refl, v, (refl, tt), (IsUtf8-are_ascii (codes "term") refl, word.sound, tt, tt)));
+      again = ap (λ (it : CellWord). Some (record { column = column; predicate = predicate; term = it })) word.again;
+    }
 
-sound-columns : (columns : List NewColumn) → AreFineColumns columns → AreSoundItems (items_of (map column_json columns))
-sound-columns [] f = tt
-sound-columns (column ∷ columns) f =
-    let word = IsUtf8-are_ascii (codes "text") refl in
-    ((IsUtf8-are_ascii (codes "name") refl, f.0.name, (refl, tt), (IsUtf8-are_ascii (codes "type") refl, word, tt, tt)), sound-columns columns f.1)
+fine-filter : (d : Data) → IsSound d → If (IsFineBy filter_of_json filter_json) (filter_of_json d)
+fine-filter d s =
+    let P = IsFineBy filter_of_json filter_json in
+    if-cond P _ _ None (λ _. if-and_then IsUtf8 P _ (λ column u. if-and_then IsUtf8 P _ (λ predicate v. if-map IsSound P (new_filter column predicate) (λ term t. fine-new_filter column predicate term u v t) (get (codes "term") d) (sound-get (codes "term") d s)) (text_at (codes "predicate") d) (sound-text_at (codes "predicate") d s)) (text_at (codes "column") d) (sound-text_at (codes "column") d s)) tt
 
--- ---- operations
+view_sound : (word name : List ℕ) (filters : List NewFilter) → IsUtf8 word → IsUtf8 name → AreSoundItems (items_of (map filter_json filters)) → IsSound (object (member (codes "conjunction") (string word) (member (codes "filters") (array (items_of (map filter_json filters))) (member (codes "name") (string name) no_members))))
+view_sound word name filters w u f = (IsUtf8-are_ascii (codes "conjunction") refl, w, (refl, (refl, tt)), (IsUtf8-are_ascii (codes "filters") refl, f, (refl, tt), (name_word, u, tt, tt)))
 
-record IsFineTable (table : List ℕ) (columns : List NewColumn) : Type 0 where
-  name : IsUtf8 table
-  fine : AreFineColumns columns
-  some : unless_empty columns ≡ Some columns
+fine-new_view : (name : List ℕ) (all : Bool) (filters : List NewFilter) → IsUtf8 name → AreFineBy filter_of_json filter_json filters → IsFineBy view_of_json view_json (new_view name all filters)
+fine-new_view name true filters u f = record {
+  sound = view_sound (codes "And") name filters (IsUtf8-are_ascii (codes "And") refl) u f.sound;
+  again = ap (option_map (new_view name true)) f.again;
+}
+fine-new_view name false filters u f = record {
+  sound = view_sound (codes "Or") name filters (IsUtf8-are_ascii (codes "Or") refl) u f.sound;
+  again = ap (option_map (new_view name false)) f.again;
+}
 
-record AreFineAppended (table : List ℕ) (rows : List OpRow) : Type 0 where
-  name : IsUtf8 table
-  fine : AreFineRows rows
-
--- what holds of an operation that was read
-abbrev IsFineOp : Op → Type 0
-IsFineOp (InsertTable table columns) = IsFineTable table columns
-IsFineOp (AppendRows table rows) = AreFineAppended table rows
-
-record AreFineSome (columns : List NewColumn) : Type 0 where
-  fine : AreFineColumns columns
-  some : unless_empty columns ≡ Some columns
-
-fine-unless_empty : (columns : List NewColumn) → AreFineColumns columns → If AreFineSome (unless_empty columns)
-fine-unless_empty [] f = tt
-fine-unless_empty (column ∷ columns) f = record { fine = f; some = refl }
-
-fine-insert_table : (d : Data) → IsSound d → If IsFineOp (insert_table_of d)
-fine-insert_table d s =
-    if-and_then IsUtf8 IsFineOp _ (λ table u. if-map AreFineSome IsFineOp (InsertTable table) (λ columns f. record { name = u; fine = f.fine; some = f.some }) _
-    (if-and_then AreFineColumns AreFineSome unless_empty fine-unless_empty _
-    (if-and_then AreSoundItems AreFineColumns (each_of column_of_json) fine-columns _ (sound-array_at (codes "columns") d s))))
-    (text_at (codes "table") d) (sound-text_at (codes "table") d s)
-
-fine-append_rows : (d : Data) → IsSound d → If IsFineOp (append_rows_of d)
-fine-append_rows d s =
-    if-and_then IsUtf8 IsFineOp _ (λ table u. if-map AreFineRows IsFineOp (AppendRows table) (λ rows f. record { name = u; fine = f }) _
-    (if-and_then AreSoundItems AreFineRows (each_of row_of_json) fine-rows _ (sound-array_at (codes "rows") d s)))
-    (text_at (codes "table") d) (sound-text_at (codes "table") d s)
-
-fine-op : (d : Data) → IsSound d → If IsFineOp (op_of_json d)
-fine-op d s =
-    if-cond IsFineOp (is_form (codes "insert_table") d) (insert_table_of d) _ (λ _. fine-insert_table d s)
-    (if-cond IsFineOp (is_form (codes "append_rows") d) (append_rows_of d) None (λ _. fine-append_rows d s) tt)
-
-again : (op : Op) → IsFineOp op → op_of_json (json_of op) ≡ Some op
-again (InsertTable table columns) f = ap (λ found. option_map (InsertTable table) (option_and_then unless_empty found)) (columns-again columns f.fine) ∙ ap (option_map (InsertTable table)) f.some
-again (AppendRows table rows) f = ap (option_map (AppendRows table)) (rows-again rows f.fine)
-
-sound : (op : Op) → IsFineOp op → IsSound (json_of op)
-sound (InsertTable table columns) f = (
-  IsUtf8-are_ascii (codes "columns") refl,
-  sound-columns columns f.fine,
-  (refl, (refl, tt)),
-  (IsUtf8-are_ascii (codes "op") refl, IsUtf8-are_ascii (codes "insert_table") refl, (refl, tt), (IsUtf8-are_ascii (codes "table") refl, f.name, tt, tt)),
-)
-sound (AppendRows table rows) f = (
-  IsUtf8-are_ascii (codes "op") refl,
-  IsUtf8-are_ascii (codes "append_rows") refl,
-  (refl, (refl, tt)),
-  (IsUtf8-are_ascii (codes "rows") refl, sound-rows rows f.fine, (refl, tt), (IsUtf8-are_ascii (codes "table") refl, f.name, tt, tt)),
-)
-
--- an operation that sound JSON is has sound JSON, which is that operation
-pub record ComesAgain (op : Op) : Type 0 where
-  pub sound : IsSound (json_of op)
-  pub again : op_of_json (json_of op) ≡ Some op
-
-pub comes_again : (d : Data) (op : Op) → IsSound d → op_of_json d ≡ Some op → ComesAgain op
-comes_again d op s e = let fine = subst (If IsFineOp) e (fine-op d s) in record { sound = sound op fine; again = again op fine }
+-- a view that was read
+pub fine-view : (d : Data) → IsSound d → If (IsFineBy view_of_json view_json) (view_of_json d)
+fine-view d s =
+    let P = IsFineBy view_of_json view_json in
+    let word = option_and_then conjunction_of (text_at (codes "conjunction") d) in
+    if-cond P _ _ None (λ _. if-and_then IsUtf8 P _ (λ name u. if-and_then (λ (all : Bool). Unit {0}) P _ (λ all _. if-map (AreFineBy filter_of_json filter_json) P (new_view name all) (λ filters f. fine-new_view name all filters u f) (each_at filter_of_json (codes "filters") d) (fine-each_at filter_of_json filter_json fine-filter (codes "filters") d s)) word (if-any word)) (text_at (codes "name") d) (sound-text_at (codes "name") d s)) tt

@@ -7,14 +7,21 @@ use Rattle.serde_json.specs.Data.{Data, number, string, Members, no_members, mem
 use Rattle.serde_json.specs.Find.{of_integer}
 use Rattle.serde_json.specs.View.{items_of}
 use Rattle.serde_json.specs.Written.{has_float, items_have_float, members_have_float}
+use Rattle.sea_cell.specs.declared.keys.RowId.{RowId}
+use Rattle.sea_cell.specs.declared.layout.ColKind.{ColKind}
+use Rattle.sea_cell.specs.declared.layout.ColKind.TheVariants as kind
 use Rattle.sea_cell.specs.declared.layout.NewColumn.{NewColumn}
+use Rattle.sea_cell.specs.declared.layout.NewEnd.{NewEnd}
 use Rattle.sea_cell.specs.declared.words.CellWord.{CellWord}
 use Rattle.sea_cell.specs.declared.words.CellWord.TheVariants.{Null, Check, Whole, Text, List as TextList, Odd}
 use Rattle.sea_plain.specs.declared.operation.NamedCell.{NamedCell}
+use Rattle.sea_plain.specs.declared.operation.NewFilter.{NewFilter}
+use Rattle.sea_plain.specs.declared.operation.NewView.{NewView}
 use Rattle.sea_plain.specs.declared.operation.OpRow.{OpRow}
+use Rattle.sea_plain.specs.declared.operation.RowChange.{RowChange}
 use Rattle.sea_plain.specs.declared.operation.Op.{Op}
-use Rattle.sea_plain.specs.declared.operation.Op.TheVariants.{InsertTable, AppendRows}
-use Rattle.sea_ops.specs.Texts.{is_whole, odd, json_of_word, with_cells, with_id, row_json, column_json, json_of}
+use Rattle.sea_plain.specs.declared.operation.Op.TheVariants as op
+use Rattle.sea_ops.specs.Texts.{is_whole, odd, json_of_word, with_cells, with_id, row_json, change_json, column_of_kind_json, column_json, filter_json, view_json, json_of}
 
 -- ---- no float
 
@@ -60,14 +67,61 @@ rows_float : (rows : List OpRow) → items_have_float (items_of (map row_json ro
 rows_float [] = refl
 rows_float (row ∷ rows) = rw (id_float row.id _ (cells_float row.cells no_members refl)) (rows_float rows)
 
+changes_float : (changes : List RowChange) → items_have_float (items_of (map change_json changes)) ≡ false
+changes_float [] = refl
+changes_float (change ∷ changes) = rw (id_float (Some change.id.0) _ (cells_float change.cells no_members refl)) (changes_float changes)
+
+ids_float : (ids : List RowId) → items_have_float (items_of (map (λ id. string id.0) ids)) ≡ false
+ids_float [] = refl
+ids_float (_ ∷ ids) = ids_float ids
+
+other_float : (other : Option NewEnd) (name : List ℕ) (unit : List ℕ) (options : List (List ℕ)) → has_float (column_of_kind_json kind.Link (record { name = name; kind = kind.Link; unit = unit; options = options; other = other })) ≡ false
+unfolding column_of_kind_json
+other_float None name unit options = refl
+other_float (Some end) name unit options = refl
+
+kind_float : (kind : ColKind) (column : NewColumn) → has_float (column_of_kind_json kind column) ≡ false
+unfolding column_of_kind_json
+kind_float kind.Text column = refl
+kind_float kind.LongText column = refl
+kind_float kind.Number column = refl
+kind_float kind.Check column = refl
+kind_float kind.Date column = refl
+kind_float kind.Select column = rw (texts_float column.options) refl
+kind_float kind.Multi column = rw (texts_float column.options) refl
+kind_float kind.People column = refl
+kind_float kind.Link column = other_float column.other column.name column.unit column.options
+kind_float kind.Made column = refl
+kind_float kind.Changed column = refl
+
 columns_float : (columns : List NewColumn) → items_have_float (items_of (map column_json columns)) ≡ false
 columns_float [] = refl
-columns_float (_ ∷ columns) = columns_float columns
+columns_float (column ∷ columns) = rw (kind_float column.kind column) (columns_float columns)
+
+filters_float : (filters : List NewFilter) → items_have_float (items_of (map filter_json filters)) ≡ false
+filters_float [] = refl
+filters_float (filter ∷ filters) = rw (word_float filter.term) (filters_float filters)
+
+view_float : (view : NewView) → has_float (view_json view) ≡ false
+view_float view = rw (filters_float view.filters) refl
 
 -- the JSON of an operation has no float
-pub has_float-json_of : (op : Op) → has_float (json_of op) ≡ false
-has_float-json_of (InsertTable table columns) = rw (columns_float columns) refl
-has_float-json_of (AppendRows table rows) = rw (rows_float rows) refl
+pub has_float-json_of : (it : Op) → has_float (json_of it) ≡ false
+has_float-json_of (op.InsertTable table columns) = rw (columns_float columns) refl
+has_float-json_of (op.RenameTable table to) = refl
+has_float-json_of (op.DeleteTable table) = refl
+has_float-json_of (op.InsertColumn table column) = rw (kind_float column.kind column) refl
+has_float-json_of (op.RenameColumn table column to) = refl
+has_float-json_of (op.DeleteColumn table column) = refl
+has_float-json_of (op.AddOptions table column options) = rw (texts_float options) refl
+has_float-json_of (op.AppendRows table rows) = rw (rows_float rows) refl
+has_float-json_of (op.ModifyRows table rows) = rw (changes_float rows) refl
+has_float-json_of (op.DeleteRows table ids) = rw (ids_float ids) refl
+has_float-json_of (op.AddLink table column row others) = rw (ids_float others) refl
+has_float-json_of (op.RemoveLink table column row others) = rw (ids_float others) refl
+has_float-json_of (op.InsertView table view) = rw (view_float view) refl
+has_float-json_of (op.ModifyView table view) = rw (view_float view) refl
+has_float-json_of (op.DeleteView table view) = refl
 
 -- ---- how deep it nests
 
@@ -109,11 +163,58 @@ rows_depth : (rows : List OpRow) → items_depth (items_of (map row_json rows)) 
 rows_depth [] = omega arith
 rows_depth (row ∷ rows) = omega (arith, id_depth row.id _ (cells_depth row.cells no_members (omega arith)), rows_depth rows)
 
+changes_depth : (changes : List RowChange) → items_depth (items_of (map change_json changes)) ≤ 2
+changes_depth [] = omega arith
+changes_depth (change ∷ changes) = omega (arith, id_depth (Some change.id.0) _ (cells_depth change.cells no_members (omega arith)), changes_depth changes)
+
+ids_depth : (ids : List RowId) → items_depth (items_of (map (λ id. string id.0) ids)) ≤ 0
+ids_depth [] = omega arith
+ids_depth (_ ∷ ids) = omega (arith, ids_depth ids)
+
+other_depth : (other : Option NewEnd) (name : List ℕ) (unit : List ℕ) (options : List (List ℕ)) → depth (column_of_kind_json kind.Link (record { name = name; kind = kind.Link; unit = unit; options = options; other = other })) ≤ 2
+unfolding column_of_kind_json
+other_depth None name unit options = omega arith
+other_depth (Some end) name unit options = omega arith
+
+kind_depth : (kind : ColKind) (column : NewColumn) → depth (column_of_kind_json kind column) ≤ 2
+unfolding column_of_kind_json
+kind_depth kind.Text column = omega arith
+kind_depth kind.LongText column = omega arith
+kind_depth kind.Number column = omega arith
+kind_depth kind.Check column = omega arith
+kind_depth kind.Date column = omega arith
+kind_depth kind.Select column = omega (arith, texts_depth column.options)
+kind_depth kind.Multi column = omega (arith, texts_depth column.options)
+kind_depth kind.People column = omega arith
+kind_depth kind.Link column = other_depth column.other column.name column.unit column.options
+kind_depth kind.Made column = omega arith
+kind_depth kind.Changed column = omega arith
+
 columns_depth : (columns : List NewColumn) → items_depth (items_of (map column_json columns)) ≤ 2
 columns_depth [] = omega arith
-columns_depth (_ ∷ columns) = omega (arith, columns_depth columns)
+columns_depth (column ∷ columns) = omega (arith, kind_depth column.kind column, columns_depth columns)
 
--- the JSON of an operation nests at most four deep
-pub depth-json_of : (op : Op) → depth (json_of op) ≤ 4
-depth-json_of (InsertTable table columns) = omega (arith, columns_depth columns)
-depth-json_of (AppendRows table rows) = omega (arith, rows_depth rows)
+filters_depth : (filters : List NewFilter) → items_depth (items_of (map filter_json filters)) ≤ 2
+filters_depth [] = omega arith
+filters_depth (filter ∷ filters) = omega (arith, word_depth filter.term, filters_depth filters)
+
+view_depth : (view : NewView) → depth (view_json view) ≤ 4
+view_depth view = omega (arith, filters_depth view.filters)
+
+-- the JSON of an operation nests at most five deep
+pub depth-json_of : (it : Op) → depth (json_of it) ≤ 5
+depth-json_of (op.InsertTable table columns) = omega (arith, columns_depth columns)
+depth-json_of (op.RenameTable table to) = omega arith
+depth-json_of (op.DeleteTable table) = omega arith
+depth-json_of (op.InsertColumn table column) = omega (arith, kind_depth column.kind column)
+depth-json_of (op.RenameColumn table column to) = omega arith
+depth-json_of (op.DeleteColumn table column) = omega arith
+depth-json_of (op.AddOptions table column options) = omega (arith, texts_depth options)
+depth-json_of (op.AppendRows table rows) = omega (arith, rows_depth rows)
+depth-json_of (op.ModifyRows table rows) = omega (arith, changes_depth rows)
+depth-json_of (op.DeleteRows table ids) = omega (arith, ids_depth ids)
+depth-json_of (op.AddLink table column row others) = omega (arith, ids_depth others)
+depth-json_of (op.RemoveLink table column row others) = omega (arith, ids_depth others)
+depth-json_of (op.InsertView table view) = omega (arith, view_depth view)
+depth-json_of (op.ModifyView table view) = omega (arith, view_depth view)
+depth-json_of (op.DeleteView table view) = omega arith

@@ -8,7 +8,7 @@ pub enum OpFault {
     /// Memory ran out.
     #[error("out of memory")]
     Memory,
-    /// The text is no operation that is built.
+    /// The text is no operation.
     #[error("no operation")]
     BadOperation,
 }

@@ -4,12 +4,16 @@
 //! crates above is that of `op_of_json`: which operation a text is, or that it is none.
 #![tactic(auto)]
 
+mod columns;
 mod fault;
 mod laws;
+mod members;
 mod reading;
 mod record;
+mod rows;
 #[cfg(test)]
 mod tests;
+mod views;
 mod writing;
 
 pub use fault::OpFault;

@@ -1,19 +1,22 @@
 // Reading operations.
 ghost use Rattle.std.specs.Prelude.{◌≡◌, ◌++◌, ℕ, List, Option, Some, None, IfOk, IsErrOf, option_map, option_and_then, codes};
-ghost use Rattle.serde_json.specs.Find.{as_array, as_object, get, get_member};
 ghost use Rattle.serde_json.specs.Read.{read};
-ghost use Rattle.serde_json.specs.View.{view, items_view, members_view};
-ghost use Rattle.sea_ops.specs.Operations.{op_of, op_of_json as op_of_data, insert_table_of, append_rows_of, is_form as is_form_of, has_members as has_members_of, text_at as text_at_of, says as says_of, each_of, unless_empty, column_of_json as column_of_data, row_of_json as row_of_data, row_with_id as row_with_id_of, cells_of_members as cells_of};
+ghost use Rattle.serde_json.specs.View.{view};
+ghost use Rattle.sea_ops.specs.Operations.{op_of, op_of_json as op_of_data, table_op as table_op_of, column_op as column_op_of, row_op as row_op_of, link_op as link_op_of, view_op as view_op_of, insert_table_of, rename_table_of, delete_table_of, insert_column_of, rename_column_of, delete_column_of, add_options_of, append_rows_of, modify_rows_of, delete_rows_of, add_link_of, remove_link_of, insert_view_of, modify_view_of, delete_view_of, each_at, column_of_json as column_of_data, row_of_json as row_of_data, change_of_json as change_of_data, where_, make_table as make_table_of, leads_away as leads_away_of};
 
+use crate::columns::{column_at, columns_at, leads_away, make_table};
 use crate::fault::OpFault;
-use sea_cell::{ColKind, NewColumn, NewColumns, Text, word_of_json};
-use sea_plain::{NamedCell, NamedCells, Op, OpRow, OpRows};
-use serde_json::{Map, Value};
-use sqlite_items::Items;
+use crate::members::{has_members, id_at, ids_at, text_at, texts_at};
+use crate::rows::{changes_at, rows_at};
+use crate::views::view_at;
+use sea_cell::Text;
+use sea_plain::Op;
+use serde_json::Value;
 use std::alloc::{AllocError, Global};
 
-/// The operation that a text is: an insert_table with text columns, or an append_rows. BadOperation says that it is
-/// neither, as a text that is no JSON (RFC 8259) in UTF-8, or that nests deeper than 127.
+/// The operation that a text is: one JSON object (RFC 8259) with the members of its form and no others, as
+/// docs/formats.md lists them. BadOperation says that it is none, as a text that is no JSON in UTF-8, or that nests
+/// deeper than 127.
 pub fn op_of_json(alloc: Global, text: &[u8]) -> Result<Op, OpFault>
     ensures ok { IfOk result (λ op. op_of text.now ≡ Some op) }
     ensures bad { IsErrOf result OpFault.BadOperation → op_of text.now ≡ None }
@@ -56,173 +59,347 @@ fn value_of(alloc: Global, text: &str) -> Result<Option<Value>, AllocError>
 fn op_of_value(alloc: Global, json: &Value) -> Result<Option<Op>, AllocError>
     ensures { IfOk result (λ op. op ≡ op_of_data (view json.now)) }
 {
-    if is_form(json, "insert_table") {
-        return Ok(insert_table(alloc, json)?);
+    let Some(word) = text_at(json, "op") else {
+        return Ok(None);
+    };
+    let Some(table) = text_at(json, "table") else {
+        return Ok(None);
+    };
+    table_op(alloc, word, json, table)
+}
+
+// An operation on tables by its name, or another one.
+#[tactic(auto, unfolding(crate::specs::Operations::table_op))]
+fn table_op(alloc: Global, word: &str, json: &Value, table: &str) -> Result<Option<Op>, AllocError>
+    ensures { IfOk result (λ op. op ≡ table_op_of word.now (view json.now) table.now) }
+{
+    if word == "insert_table" {
+        return insert_table(alloc, json, table);
     }
-    if is_form(json, "append_rows") {
-        return Ok(append_rows(alloc, json)?);
+    if word == "rename_table" {
+        return rename_table(alloc, json, table);
+    }
+    if word == "delete_table" {
+        return delete_table(alloc, json, table);
+    }
+    column_op(alloc, word, json, table)
+}
+
+// An operation on columns by its name, or another one.
+#[tactic(auto, unfolding(crate::specs::Operations::column_op))]
+fn column_op(alloc: Global, word: &str, json: &Value, table: &str) -> Result<Option<Op>, AllocError>
+    ensures { IfOk result (λ op. op ≡ column_op_of word.now (view json.now) table.now) }
+{
+    if word == "insert_column" {
+        return insert_column(alloc, json, table);
+    }
+    if word == "rename_column" {
+        return rename_column(alloc, json, table);
+    }
+    if word == "delete_column" {
+        return delete_column(alloc, json, table);
+    }
+    if word == "add_options" {
+        return add_options(alloc, json, table);
+    }
+    row_op(alloc, word, json, table)
+}
+
+// An operation on rows by its name, or another one.
+#[tactic(auto, unfolding(crate::specs::Operations::row_op))]
+fn row_op(alloc: Global, word: &str, json: &Value, table: &str) -> Result<Option<Op>, AllocError>
+    ensures { IfOk result (λ op. op ≡ row_op_of word.now (view json.now) table.now) }
+{
+    if word == "append_rows" {
+        return append_rows(alloc, json, table);
+    }
+    if word == "modify_rows" {
+        return modify_rows(alloc, json, table);
+    }
+    if word == "delete_rows" {
+        return delete_rows(alloc, json, table);
+    }
+    link_op(alloc, word, json, table)
+}
+
+// An operation on links by its name, or another one.
+#[tactic(auto, unfolding(crate::specs::Operations::link_op))]
+fn link_op(alloc: Global, word: &str, json: &Value, table: &str) -> Result<Option<Op>, AllocError>
+    ensures { IfOk result (λ op. op ≡ link_op_of word.now (view json.now) table.now) }
+{
+    if word == "add_link" {
+        return add_link(alloc, json, table);
+    }
+    if word == "remove_link" {
+        return remove_link(alloc, json, table);
+    }
+    view_op(alloc, word, json, table)
+}
+
+// An operation on views by its name, or none.
+#[tactic(auto, unfolding(crate::specs::Operations::view_op))]
+fn view_op(alloc: Global, word: &str, json: &Value, table: &str) -> Result<Option<Op>, AllocError>
+    ensures { IfOk result (λ op. op ≡ view_op_of word.now (view json.now) table.now) }
+{
+    if word == "insert_view" {
+        return insert_view(alloc, json, table);
+    }
+    if word == "modify_view" {
+        return modify_view(alloc, json, table);
+    }
+    if word == "delete_view" {
+        return delete_view(alloc, json, table);
     }
     Ok(None)
 }
 
-// An object of three members, with this operation's name.
-fn is_form(json: &Value, op: &str) -> bool
-    ensures { result ≡ is_form_of op.now (view json.now) }
+#[tactic(auto, unfolding(crate::specs::Operations::insert_table_of))]
+fn insert_table(alloc: Global, json: &Value, table: &str) -> Result<Option<Op>, AllocError>
+    ensures { IfOk result (λ op. op ≡ insert_table_of (view json.now) table.now) }
 {
-    has_members(json, 3) && says(json, "op", op)
-}
-
-fn has_members(json: &Value, count: usize) -> bool
-    ensures { result ≡ has_members_of count (view json.now) }
-{
-    match json.as_object() {
-        Some(members) => members.len() == count,
-        None => false,
+    if !has_members(json, 3) {
+        return Ok(None);
     }
-}
-
-// The text under a name.
-fn text_at<'a>(json: &'a Value, name: &str) -> Option<&'a str>
-    ensures { option_map (λ text. text.now) result ≡ text_at_of name.now (view json.now) }
-{
-    match json.get(name) {
-        Some(value) => value.as_str(),
-        None => None,
-    }
-}
-
-// This text stands under a name.
-fn says(json: &Value, name: &str, text: &str) -> bool
-    ensures { result ≡ says_of name.now text.now (view json.now) }
-{
-    match text_at(json, name) {
-        Some(found) => text == found,
-        None => false,
-    }
-}
-
-// The array under a name.
-fn array_at<'a>(json: &'a Value, name: &str) -> Option<&'a [Value]>
-    ensures { option_map (λ items. items_view items.now) result
-        ≡ option_and_then as_array (get name.now (view json.now)) }
-{
-    match json.get(name) {
-        Some(value) => match value.as_array() {
-            Some(items) => Some(items.as_slice()),
-            None => None,
-        },
-        None => None,
-    }
-}
-
-fn insert_table(alloc: Global, json: &Value) -> Result<Option<Op>, AllocError>
-    ensures { IfOk result (λ op. op ≡ insert_table_of (view json.now)) }
-{
-    let Some(table) = text_at(json, "table") else {
+    let Some(columns) = columns_at(alloc, json, "columns")? else {
         return Ok(None);
     };
-    let Some(items) = array_at(json, "columns") else {
-        return Ok(None);
-    };
-    let Some(columns) = columns_of(alloc, items)? else {
-        return Ok(None);
-    };
-    if columns.is_empty() {
+    if !make_table(columns.as_slice()) {
         return Ok(None);
     }
     let table = Text::copy_of(alloc, table)?;
     Ok(Some(Op::InsertTable { table, columns }))
 }
 
-fn columns_of(alloc: Global, items: &[Value]) -> Result<Option<NewColumns>, AllocError>
-    ensures { IfOk result (λ columns. columns ≡ each_of column_of_data (items_view items.now)) }
+#[tactic(auto, unfolding(crate::specs::Operations::rename_table_of))]
+fn rename_table(alloc: Global, json: &Value, table: &str) -> Result<Option<Op>, AllocError>
+    ensures { IfOk result (λ op. op ≡ rename_table_of (view json.now) table.now) }
 {
-    let mut columns = Items::new(alloc);
-    for item in items {
-        match column_of_json(alloc, item)? {
-            Some(column) => columns.push(column)?,
-            None => return Ok(None),
-        }
-    }
-    Ok(Some(columns))
-}
-
-fn column_of_json(alloc: Global, json: &Value) -> Result<Option<NewColumn>, AllocError>
-    ensures { IfOk result (λ column. column ≡ column_of_data (view json.now)) }
-{
-    if !(has_members(json, 2) && says(json, "type", "text")) {
+    if !has_members(json, 3) {
         return Ok(None);
     }
-    let Some(name) = text_at(json, "name") else {
+    let Some(to) = text_at(json, "to") else {
         return Ok(None);
     };
-    Ok(Some(NewColumn {
-        name: Text::copy_of(alloc, name)?,
-        kind: ColKind::Text,
-        unit: Text::from(String::new(alloc)),
-        options: Items::new(alloc),
-        other: None,
+    Ok(Some(Op::RenameTable {
+        table: Text::copy_of(alloc, table)?,
+        to: Text::copy_of(alloc, to)?,
     }))
 }
 
-fn append_rows(alloc: Global, json: &Value) -> Result<Option<Op>, AllocError>
-    ensures { IfOk result (λ op. op ≡ append_rows_of (view json.now)) }
+#[tactic(auto, unfolding(crate::specs::Operations::delete_table_of))]
+fn delete_table(alloc: Global, json: &Value, table: &str) -> Result<Option<Op>, AllocError>
+    ensures { IfOk result (λ op. op ≡ delete_table_of (view json.now) table.now) }
 {
-    let Some(table) = text_at(json, "table") else {
+    if !has_members(json, 2) {
+        return Ok(None);
+    }
+    let table = Text::copy_of(alloc, table)?;
+    Ok(Some(Op::DeleteTable { table }))
+}
+
+#[tactic(auto, unfolding(crate::specs::Operations::insert_column_of))]
+fn insert_column(alloc: Global, json: &Value, table: &str) -> Result<Option<Op>, AllocError>
+    ensures { IfOk result (λ op. op ≡ insert_column_of (view json.now) table.now) }
+{
+    if !has_members(json, 3) {
+        return Ok(None);
+    }
+    let Some(column) = column_at(alloc, json, "column")? else {
         return Ok(None);
     };
-    let Some(items) = array_at(json, "rows") else {
+    if !leads_away(table, &column) {
+        return Ok(None);
+    }
+    let table = Text::copy_of(alloc, table)?;
+    Ok(Some(Op::InsertColumn { table, column }))
+}
+
+#[tactic(auto, unfolding(crate::specs::Operations::rename_column_of))]
+fn rename_column(alloc: Global, json: &Value, table: &str) -> Result<Option<Op>, AllocError>
+    ensures { IfOk result (λ op. op ≡ rename_column_of (view json.now) table.now) }
+{
+    if !has_members(json, 4) {
+        return Ok(None);
+    }
+    let Some(column) = text_at(json, "column") else {
         return Ok(None);
     };
-    let Some(rows) = rows_of(alloc, items)? else {
+    let Some(to) = text_at(json, "to") else {
+        return Ok(None);
+    };
+    Ok(Some(Op::RenameColumn {
+        table: Text::copy_of(alloc, table)?,
+        column: Text::copy_of(alloc, column)?,
+        to: Text::copy_of(alloc, to)?,
+    }))
+}
+
+#[tactic(auto, unfolding(crate::specs::Operations::delete_column_of))]
+fn delete_column(alloc: Global, json: &Value, table: &str) -> Result<Option<Op>, AllocError>
+    ensures { IfOk result (λ op. op ≡ delete_column_of (view json.now) table.now) }
+{
+    if !has_members(json, 3) {
+        return Ok(None);
+    }
+    let Some(column) = text_at(json, "column") else {
+        return Ok(None);
+    };
+    Ok(Some(Op::DeleteColumn {
+        table: Text::copy_of(alloc, table)?,
+        column: Text::copy_of(alloc, column)?,
+    }))
+}
+
+#[tactic(auto, unfolding(crate::specs::Operations::add_options_of))]
+fn add_options(alloc: Global, json: &Value, table: &str) -> Result<Option<Op>, AllocError>
+    ensures { IfOk result (λ op. op ≡ add_options_of (view json.now) table.now) }
+{
+    if !has_members(json, 4) {
+        return Ok(None);
+    }
+    let Some(column) = text_at(json, "column") else {
+        return Ok(None);
+    };
+    let Some(options) = texts_at(alloc, json, "options")? else {
+        return Ok(None);
+    };
+    Ok(Some(Op::AddOptions {
+        table: Text::copy_of(alloc, table)?,
+        column: Text::copy_of(alloc, column)?,
+        options,
+    }))
+}
+
+#[tactic(auto, unfolding(crate::specs::Operations::append_rows_of))]
+fn append_rows(alloc: Global, json: &Value, table: &str) -> Result<Option<Op>, AllocError>
+    ensures { IfOk result (λ op. op ≡ append_rows_of (view json.now) table.now) }
+{
+    if !has_members(json, 3) {
+        return Ok(None);
+    }
+    let Some(rows) = rows_at(alloc, json, "rows")? else {
         return Ok(None);
     };
     let table = Text::copy_of(alloc, table)?;
     Ok(Some(Op::AppendRows { table, rows }))
 }
 
-fn rows_of(alloc: Global, items: &[Value]) -> Result<Option<OpRows>, AllocError>
-    ensures { IfOk result (λ rows. rows ≡ each_of row_of_data (items_view items.now)) }
+#[tactic(auto, unfolding(crate::specs::Operations::modify_rows_of))]
+fn modify_rows(alloc: Global, json: &Value, table: &str) -> Result<Option<Op>, AllocError>
+    ensures { IfOk result (λ op. op ≡ modify_rows_of (view json.now) table.now) }
 {
-    let mut rows = Items::new(alloc);
-    for item in items {
-        match row_of_json(alloc, item)? {
-            Some(row) => rows.push(row)?,
-            None => return Ok(None),
-        }
+    if !has_members(json, 3) {
+        return Ok(None);
     }
-    Ok(Some(rows))
-}
-
-fn row_of_json(alloc: Global, json: &Value) -> Result<Option<OpRow>, AllocError>
-    ensures { IfOk result (λ row. row ≡ row_of_data (view json.now)) }
-{
-    let Some(members) = json.as_object() else {
+    let Some(rows) = changes_at(alloc, json, "rows")? else {
         return Ok(None);
     };
-    let cells = cells_of_members(alloc, members)?;
-    let Some(id) = json.get("_id") else {
-        return Ok(Some(OpRow { id: None, cells }));
-    };
-    let Some(text) = id.as_str() else {
-        return Ok(None);
-    };
-    let id = Some(Text::copy_of(alloc, text)?);
-    Ok(Some(OpRow { id, cells }))
+    let table = Text::copy_of(alloc, table)?;
+    Ok(Some(Op::ModifyRows { table, rows }))
 }
 
-// The cells of a row: its members but for the id.
-fn cells_of_members(alloc: Global, members: &Map<String, Value>) -> Result<NamedCells, AllocError>
-    ensures { IfOk result (λ cells. cells ≡ cells_of (members_view members.now.entries)) }
+#[tactic(auto, unfolding(crate::specs::Operations::delete_rows_of))]
+fn delete_rows(alloc: Global, json: &Value, table: &str) -> Result<Option<Op>, AllocError>
+    ensures { IfOk result (λ op. op ≡ delete_rows_of (view json.now) table.now) }
 {
-    let mut cells = Items::new(alloc);
-    for (name, json) in members {
-        if name.as_str() != "_id" {
-            cells.push(NamedCell {
-                name: Text::copy_of(alloc, name.as_str())?,
-                word: word_of_json(alloc, json)?,
-            })?;
-        }
+    if !has_members(json, 3) {
+        return Ok(None);
     }
-    Ok(cells)
+    let Some(ids) = ids_at(alloc, json, "ids")? else {
+        return Ok(None);
+    };
+    let table = Text::copy_of(alloc, table)?;
+    Ok(Some(Op::DeleteRows { table, ids }))
+}
+
+#[tactic(auto, unfolding(crate::specs::Operations::add_link_of))]
+fn add_link(alloc: Global, json: &Value, table: &str) -> Result<Option<Op>, AllocError>
+    ensures { IfOk result (λ op. op ≡ add_link_of (view json.now) table.now) }
+{
+    if !has_members(json, 5) {
+        return Ok(None);
+    }
+    let Some(column) = text_at(json, "column") else {
+        return Ok(None);
+    };
+    let Some(row) = id_at(alloc, json, "row")? else {
+        return Ok(None);
+    };
+    let Some(others) = ids_at(alloc, json, "others")? else {
+        return Ok(None);
+    };
+    Ok(Some(Op::AddLink {
+        table: Text::copy_of(alloc, table)?,
+        column: Text::copy_of(alloc, column)?,
+        row,
+        others,
+    }))
+}
+
+#[tactic(auto, unfolding(crate::specs::Operations::remove_link_of))]
+fn remove_link(alloc: Global, json: &Value, table: &str) -> Result<Option<Op>, AllocError>
+    ensures { IfOk result (λ op. op ≡ remove_link_of (view json.now) table.now) }
+{
+    if !has_members(json, 5) {
+        return Ok(None);
+    }
+    let Some(column) = text_at(json, "column") else {
+        return Ok(None);
+    };
+    let Some(row) = id_at(alloc, json, "row")? else {
+        return Ok(None);
+    };
+    let Some(others) = ids_at(alloc, json, "others")? else {
+        return Ok(None);
+    };
+    Ok(Some(Op::RemoveLink {
+        table: Text::copy_of(alloc, table)?,
+        column: Text::copy_of(alloc, column)?,
+        row,
+        others,
+    }))
+}
+
+#[tactic(auto, unfolding(crate::specs::Operations::insert_view_of))]
+fn insert_view(alloc: Global, json: &Value, table: &str) -> Result<Option<Op>, AllocError>
+    ensures { IfOk result (λ op. op ≡ insert_view_of (view json.now) table.now) }
+{
+    if !has_members(json, 3) {
+        return Ok(None);
+    }
+    let Some(view) = view_at(alloc, json, "view")? else {
+        return Ok(None);
+    };
+    let table = Text::copy_of(alloc, table)?;
+    Ok(Some(Op::InsertView { table, view }))
+}
+
+#[tactic(auto, unfolding(crate::specs::Operations::modify_view_of))]
+fn modify_view(alloc: Global, json: &Value, table: &str) -> Result<Option<Op>, AllocError>
+    ensures { IfOk result (λ op. op ≡ modify_view_of (view json.now) table.now) }
+{
+    if !has_members(json, 3) {
+        return Ok(None);
+    }
+    let Some(view) = view_at(alloc, json, "view")? else {
+        return Ok(None);
+    };
+    let table = Text::copy_of(alloc, table)?;
+    Ok(Some(Op::ModifyView { table, view }))
+}
+
+#[tactic(auto, unfolding(crate::specs::Operations::delete_view_of))]
+fn delete_view(alloc: Global, json: &Value, table: &str) -> Result<Option<Op>, AllocError>
+    ensures { IfOk result (λ op. op ≡ delete_view_of (view json.now) table.now) }
+{
+    if !has_members(json, 3) {
+        return Ok(None);
+    }
+    let Some(view) = text_at(json, "view") else {
+        return Ok(None);
+    };
+    Ok(Some(Op::DeleteView {
+        table: Text::copy_of(alloc, table)?,
+        view: Text::copy_of(alloc, view)?,
+    }))
 }

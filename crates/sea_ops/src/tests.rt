@@ -39,8 +39,8 @@ fn rows_in_their_canonical_text(rt: HostRuntime) -> Result<(), Fail> {
             r#"{"a":1,"b":-5,"c":18446744073709551615,"d":-9223372036854775808}"#,
         ),
         (
-            r#"{"a":1e2,"b":1.5,"c":18446744073709551616,"d":-0,"e":{"x":[{}]},"f":[1]}"#,
-            r#"{"a":{},"b":{},"c":{},"d":{},"e":{},"f":{}}"#,
+            r#"{"a":1e2,"b":1.5,"c":18446744073709551616,"d":-0,"e":{"x":[{}]},"f":[1],"g":1.0,"h":-9223372036854775809}"#,
+            r#"{"a":{},"b":{},"c":{},"d":{},"e":{},"f":{},"g":{},"h":{}}"#,
         ),
         (r#"{"a":["y","x"],"b":[]}"#, r#"{"a":["y","x"],"b":[]}"#),
         (
@@ -66,29 +66,203 @@ fn rows_in_their_canonical_text(rt: HostRuntime) -> Result<(), Fail> {
     Ok(())
 }
 
+// Texts of operations and their canonical texts; where the second is empty the first is the canonical one.
+const FORMS: [(&str, &str); 25] = [
+    (TABLE, ""),
+    (
+        r#"{"op":"insert_table","table":"Orders","columns":[{"type":"date","name":"Day"},{"name":"Amount","type":"number","unit":"cent"},{"name":"Units","type":"number"}]}"#,
+        r#"{"columns":[{"name":"Day","type":"date"},{"name":"Amount","type":"number","unit":"cent"},{"name":"Units","type":"number","unit":""}],"op":"insert_table","table":"Orders"}"#,
+    ),
+    (
+        r#"{"op":"insert_table","table":"T","columns":[{"name":"S","type":"single-select"},{"options":["b","a","b"],"name":"M","type":"multiple-select"}]}"#,
+        r#"{"columns":[{"name":"S","options":[],"type":"single-select"},{"name":"M","options":["b","a","b"],"type":"multiple-select"}],"op":"insert_table","table":"T"}"#,
+    ),
+    (
+        r#"{"columns":[{"name":"A","type":"text"},{"name":"B","type":"long-text"},{"name":"C","type":"checkbox"},{"name":"D","type":"collaborator"},{"name":"E","type":"ctime"},{"name":"F","type":"mtime"}],"op":"insert_table","table":"T"}"#,
+        "",
+    ),
+    (r#"{"op":"rename_table","table":"T","to":"U"}"#, ""),
+    (
+        r#"{"to":"","table":"","op":"rename_table"}"#,
+        r#"{"op":"rename_table","table":"","to":""}"#,
+    ),
+    (r#"{"op":"delete_table","table":"T"}"#, ""),
+    (
+        r#"{"op":"insert_column","table":"A","column":{"name":"L","type":"link","other_name":"R","other":"B"}}"#,
+        r#"{"column":{"name":"L","other":"B","other_name":"R","type":"link"},"op":"insert_column","table":"A"}"#,
+    ),
+    (
+        r#"{"column":{"name":"S","options":["x"],"type":"single-select"},"op":"insert_column","table":"T"}"#,
+        "",
+    ),
+    (
+        r#"{"column":"A","op":"rename_column","table":"T","to":"B"}"#,
+        "",
+    ),
+    (r#"{"column":"A","op":"delete_column","table":"T"}"#, ""),
+    (
+        r#"{"column":"S","op":"add_options","options":["red","red",""],"table":"T"}"#,
+        "",
+    ),
+    (
+        r#"{"column":"S","op":"add_options","options":[],"table":"T"}"#,
+        "",
+    ),
+    (r#"{"op":"append_rows","rows":[],"table":"T"}"#, ""),
+    (
+        r#"{"table":"T","op":"modify_rows","rows":[{"b":1,"_id":"a","a":null},{"_id":"no id at all"}]}"#,
+        r#"{"op":"modify_rows","rows":[{"_id":"a","a":null,"b":1},{"_id":"no id at all"}],"table":"T"}"#,
+    ),
+    (r#"{"ids":["a","a",""],"op":"delete_rows","table":"T"}"#, ""),
+    (r#"{"ids":[],"op":"delete_rows","table":"T"}"#, ""),
+    (
+        r#"{"column":"L","op":"add_link","others":["b1","b2"],"row":"a1","table":"A"}"#,
+        "",
+    ),
+    (
+        r#"{"op":"remove_link","table":"A","column":"L","row":"a1","others":["b1"]}"#,
+        r#"{"column":"L","op":"remove_link","others":["b1"],"row":"a1","table":"A"}"#,
+    ),
+    (
+        r#"{"op":"insert_view","table":"T","view":{"name":"All","conjunction":"And","filters":[]}}"#,
+        r#"{"op":"insert_view","table":"T","view":{"conjunction":"And","filters":[],"name":"All"}}"#,
+    ),
+    (
+        r#"{"op":"modify_view","table":"T","view":{"filters":[{"term":null,"predicate":"is_empty","column":"A"},{"column":"B","predicate":"is","term":1.5}],"conjunction":"Or","name":"V"}}"#,
+        r#"{"op":"modify_view","table":"T","view":{"conjunction":"Or","filters":[{"column":"A","predicate":"is_empty","term":null},{"column":"B","predicate":"is","term":{}}],"name":"V"}}"#,
+    ),
+    (
+        r#"{"op":"insert_view","table":"T","view":{"conjunction":"Or","filters":[{"column":"M","predicate":"no such","term":["x","x"]}],"name":""}}"#,
+        "",
+    ),
+    (r#"{"op":"delete_view","table":"T","view":"V"}"#, ""),
+    // the last of two members of one name counts
+    (
+        r#"{"op":"delete_view","table":"T","view":"V","view":"W"}"#,
+        r#"{"op":"delete_view","table":"T","view":"W"}"#,
+    ),
+    (
+        r#"{"op":"drop","op":"rename_table","table":"\u0054","to":"\"\\\/\b\f\n\r\t\u00e9"}"#,
+        "{\"op\":\"rename_table\",\"table\":\"T\",\"to\":\"\\\"\\\\/\\b\\f\\n\\r\\té\"}",
+    ),
+];
+
+#[test]
+fn forms_in_their_canonical_text(rt: HostRuntime) -> Result<(), Fail> {
+    for (text, want) in FORMS {
+        let want = if want.is_empty() { text } else { want };
+        let canonical = again(rt.alloc(), text)?;
+        assert!(rt; canonical.as_slice() == want.as_bytes(), "{text}");
+        let second = again(rt.alloc(), want)?;
+        assert!(rt; second.as_slice() == want.as_bytes(), "{text}");
+    }
+    Ok(())
+}
+
+// Texts that are no operation, though some are near to one.
+const OTHERS: [&str; 65] = [
+    "",
+    "{}",
+    "[]",
+    r#"{"op":"drop_table","table":"T"}"#,
+    r#"{"op":"delete_table"}"#,
+    r#"{"table":"T"}"#,
+    r#"{"op":"delete_table","table":1}"#,
+    r#"{"op":"delete_table","table":"T","more":1}"#,
+    r#"{"op":"delete_table","table":"T"} x"#,
+    r#"{"op":"rename_table","table":"T","to":null}"#,
+    r#"{"op":"rename_table","table":"T"}"#,
+    r#"{"op":"insert_table","table":"T","columns":[]}"#,
+    r#"{"op":"insert_table","table":"T","columns":{}}"#,
+    r#"{"op":"insert_table","table":"T","columns":[{"name":"N"}]}"#,
+    r#"{"op":"insert_table","table":"T","columns":[{"name":"N","type":"Text"}]}"#,
+    r#"{"op":"insert_table","table":"T","columns":[{"name":"N","type":"rate"}]}"#,
+    r#"{"op":"insert_table","table":"T","columns":[{"name":1,"type":"text"}]}"#,
+    r#"{"op":"insert_table","table":"T","columns":[{"name":"N","type":"text","unit":""}]}"#,
+    r#"{"op":"insert_table","table":"T","columns":[{"name":"N","type":"number","unit":1}]}"#,
+    r#"{"op":"insert_table","table":"T","columns":[{"name":"N","type":"number","options":[]}]}"#,
+    r#"{"op":"insert_table","table":"T","columns":[{"name":"N","type":"single-select","options":"x"}]}"#,
+    r#"{"op":"insert_table","table":"T","columns":[{"name":"N","type":"single-select","options":[1]}]}"#,
+    r#"{"op":"insert_table","table":"T","columns":[{"name":"N","type":"long-text"}]}"#,
+    r#"{"op":"insert_table","table":"T","columns":[{"name":"N","type":"checkbox"}]}"#,
+    r#"{"op":"insert_table","table":"T","columns":[{"name":"N","type":"multiple-select"}]}"#,
+    r#"{"op":"insert_table","table":"T","columns":[{"name":"N","type":"collaborator"}]}"#,
+    r#"{"op":"insert_table","table":"T","columns":[{"name":"N","type":"ctime"}]}"#,
+    r#"{"op":"insert_table","table":"T","columns":[{"name":"N","type":"mtime"}]}"#,
+    r#"{"op":"insert_table","table":"T","columns":[{"name":"N","type":"text"},{"name":"L","type":"link","other":"U","other_name":"R"}]}"#,
+    r#"{"op":"insert_column","table":"T","column":{"name":"L","type":"link"}}"#,
+    r#"{"op":"insert_column","table":"T","column":{"name":"L","type":"link","other":"U"}}"#,
+    r#"{"op":"insert_column","table":"T","column":{"name":"L","type":"link","other":"T","other_name":"R"}}"#,
+    r#"{"op":"insert_column","table":"T","column":[]}"#,
+    r#"{"op":"insert_column","table":"T","columns":{"name":"N","type":"text"}}"#,
+    r#"{"op":"add_options","table":"T","column":"S","options":[null]}"#,
+    r#"{"op":"append_rows","table":"T","rows":{}}"#,
+    r#"{"op":"append_rows","table":"T","rows":[[]]}"#,
+    r#"{"op":"append_rows","table":"T","rows":[{"_id":1}]}"#,
+    r#"{"op":"append_rows","table":"T","rows":[],"more":1}"#,
+    r#"{"op":"append_rows","table":"T","rows":[]"#,
+    r#"{"op":"append_rows","table":"T","rows":[{"a":1e400}]}"#,
+    r#"{"op":"append_rows","table":"T","rows":[{"a":"\ud800"}]}"#,
+    r#"{"op":"modify_rows","table":"T","rows":[{"a":1}]}"#,
+    r#"{"op":"delete_rows","table":"T","ids":[1]}"#,
+    r#"{"op":"add_link","table":"A","column":"L","row":1,"others":[]}"#,
+    r#"{"op":"add_link","table":"A","column":"L","row":"a","others":"b"}"#,
+    r#"{"op":"append_rows","table":"T","rows":[{"a":"\ud800","a":1}]}"#,
+    r#"{"op":"append_rows","table":"T","rows":[{"_id":null}]}"#,
+    r#"{"op":"modify_rows","table":"T","rows":[{"_id":1}]}"#,
+    r#"{"op":"rename_column","table":"T","column":"A"}"#,
+    r#"{"op":"delete_column","table":"T","column":["A"]}"#,
+    r#"{"op":"remove_link","table":"A","column":"L","row":"a"}"#,
+    r#"{"op":"insert_table","table":"T","columns":[{"name":"L","type":"link","other":"U","other_name":"R"}]}"#,
+    r#"{"op":"insert_table","table":"T","columns":[{"name":"N","type":"number","unit":null}]}"#,
+    r#"{"op":"insert_table","table":"T","columns":[{"name":"S","type":"single-select","options":null}]}"#,
+    r#"{"op":"insert_table","table":"T","columns":[{"name":"S","type":"single-select","unit":""}]}"#,
+    r#"{"op":"insert_column","table":"T","column":{"name":"L","type":"link","other":"U","other_name":"R","unit":""}}"#,
+    r#"{"op":"insert_view","table":"T","view":"V"}"#,
+    r#"{"op":"delete_view","table":"T","view":{"name":"V"}}"#,
+    r#"{"op":"modify_view","table":"T","view":{"name":"V","conjunction":"And","filters":{}}}"#,
+    r#"{"op":"modify_view","table":"T","view":{"name":"V","conjunction":"And","filters":[],"all":true}}"#,
+    r#"{"op":"insert_view","table":"T","view":{"name":"V","conjunction":"And","filters":[{"column":"A","predicate":1,"term":null}]}}"#,
+    r#"{"op":"insert_view","table":"T","view":{"name":"V","conjunction":"And","filters":[{"column":"A","predicate":"is","term":1,"more":1}]}}"#,
+    r#"{"op":"insert_view","table":"T","view":{"name":"V","conjunction":"and","filters":[]}}"#,
+    r#"{"op":"insert_view","table":"T","view":{"name":"V","conjunction":"And","filters":[{"column":"A","predicate":"is"}]}}"#,
+];
+
+fn is_no_operation(alloc: Global, text: &[u8]) -> bool {
+    matches!(op_of_json(alloc, text), Err(OpFault::BadOperation))
+}
+
 #[test]
 fn texts_that_are_no_operation(rt: HostRuntime) -> Result<(), Fail> {
-    let texts = [
-        "",
-        "{}",
-        r#"{"op":"drop_table","table":"T","columns":[]}"#,
-        r#"{"op":"insert_table","table":"T","columns":[]}"#,
-        r#"{"op":"insert_table","table":"T","columns":[{"name":"N","type":"number"}]}"#,
-        r#"{"op":"insert_table","table":1,"columns":[{"name":"N","type":"text"}]}"#,
-        r#"{"op":"append_rows","table":"T","rows":[[]]}"#,
-        r#"{"op":"append_rows","table":"T","rows":[{"_id":1}]}"#,
-        r#"{"op":"append_rows","table":"T","rows":[],"more":1}"#,
-        r#"{"op":"append_rows","table":"T","rows":[]"#,
-    ];
-    for text in texts {
-        let found = op_of_json(rt.alloc(), text.as_bytes());
-        assert!(rt; matches!(found, Err(OpFault::BadOperation)), "{text}");
+    for text in OTHERS {
+        assert!(rt; is_no_operation(rt.alloc(), text.as_bytes()), "{text}");
     }
-    let found = op_of_json(
-        rt.alloc(),
-        b"{\"op\":\"append_rows\",\"table\":\"\xff\",\"rows\":[]}",
+    assert!(rt; is_no_operation(rt.alloc(), b"{\"op\":\"delete_table\",\"table\":\"\xff\"}"));
+    Ok(())
+}
+
+// A row with a cell that nests so deep that the whole operation nests `levels` deep.
+fn nested(alloc: Global, levels: usize) -> Result<String, AllocError> {
+    let mut text = String::from_str(alloc, r#"{"op":"append_rows","table":"T","rows":[{"a":"#)?;
+    for _ in 3..levels {
+        text.push('[')?;
+    }
+    for _ in 3..levels {
+        text.push(']')?;
+    }
+    text.push_str("}]}")?;
+    Ok(text)
+}
+
+#[test]
+fn as_deep_as_json_is_read(rt: HostRuntime) -> Result<(), Fail> {
+    let text = nested(rt.alloc(), 127)?;
+    let canonical = again(rt.alloc(), text.as_str())?;
+    assert!(rt;
+        canonical.as_slice() == br#"{"op":"append_rows","rows":[{"a":{}}],"table":"T"}"#.as_slice()
     );
-    assert!(rt; matches!(found, Err(OpFault::BadOperation)));
+    let text = nested(rt.alloc(), 128)?;
+    assert!(rt; is_no_operation(rt.alloc(), text.as_bytes()));
     Ok(())
 }
 

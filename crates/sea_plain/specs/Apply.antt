@@ -22,7 +22,8 @@ abbrev pub appended : Moment → ℕ → List ℕ → List OpRow → PlainTable 
 appended moment number name rows table =
     if bytes_eq table.name name then record table { rows = table.rows ++ rows_of table.columns moment number rows } else table
 
--- The base after an accepted operation. The version rises by one, the next numbers by what the operation makes.
+-- The base after an accepted operation. The version rises by one, the next numbers by what the operation makes. What
+-- isn't built is never accepted.
 abbrev pub applied : Plain → Moment → Op → Plain
 applied base moment (InsertTable table columns) = record base {
   version = base.version + 1;
@@ -35,6 +36,7 @@ applied base moment (AppendRows table rows) = record base {
   next_row = base.next_row + length rows;
   tables = map (appended moment base.next_row table rows) base.tables;
 }
+applied base moment _ = record base { version = base.version + 1 }
 
 -- the new base, unless there is a refusal
 abbrev pub unless_refused : Option OpRefusal → Plain → Result Plain OpRefusal

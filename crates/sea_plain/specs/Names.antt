@@ -1,7 +1,7 @@
 -- Names and ids, and texts that come twice.
 use Rattle.std.specs.Prelude.{ℕ, ◌&&◌, ◌||◌, ◌==◌, List, [], ◌∷◌, ◌++◌, length, slice_index, Bool, not, nat_lt, nat_le, if◌then◌else◌, Option, Some, None}
-use Rattle.std.specs.List.{list_all, list_any}
-use Rattle.std.specs.Str.{bytes_eq}
+use Rattle.std.specs.List.{list_all}
+use Rattle.sea_cell.specs.Once.{is_among}
 
 -- no control character, no DEL, and no backquote
 abbrev pub is_name_byte : ℕ → Bool
@@ -18,10 +18,6 @@ is_id_byte byte = (nat_le 65 byte && nat_le byte 90) || ((nat_le 97 byte && nat_
 -- an id that a row may be given: 1 to 22 such bytes
 abbrev pub is_id : List ℕ → Bool
 is_id id = nat_lt 0 (length id) && (nat_le (length id) 22 && list_all is_id_byte id)
-
--- a text is among some texts
-abbrev pub is_among : List (List ℕ) → List ℕ → Bool
-is_among texts text = list_any (λ one. bytes_eq one text) texts
 
 -- the first text that stands among those before it
 abbrev pub first_repeat : List (List ℕ) → List (List ℕ) → Option (List ℕ)

@@ -1,12 +1,16 @@
 -- Why a base refuses an operation: the first refusal that holds, in one order, with its first place in the operation.
 -- Places go by the operation's text with the members of each object in byte order, so an insert_table's columns
 -- stand before its table.
-use Rattle.std.specs.Prelude.{ℕ, ◌+◌, ◌^◌, List, [], ◌∷◌, length, map, nat_lt, is_some, if◌then◌else◌, Option, Some, None, option_map, option_and_then, Result, Ok, Err}
+use Rattle.std.specs.Prelude.{ℕ, ◌+◌, ◌^◌, List, [], ◌∷◌, length, map, nat_lt, Bool, true, false, is_some, if◌then◌else◌, Option, Some, None, option_map, option_and_then, Result, Ok, Err}
+use Rattle.std.specs.List.{list_all}
 use Rattle.std.specs.Option.{option_map_or}
 use Rattle.sea_cell.specs.Conversion.{cell_of}
 use Rattle.sea_cell.specs.Sizes.{row_bytes_of}
 use Rattle.sea_cell.specs.declared.keys.Moment.{Moment}
+use Rattle.sea_cell.specs.declared.layout.ColKind.{ColKind}
+use Rattle.sea_cell.specs.declared.layout.ColKind.TheVariants as kind
 use Rattle.sea_cell.specs.declared.layout.Column.{Column}
+use Rattle.sea_cell.specs.declared.layout.NewColumn.{NewColumn}
 use Rattle.sea_cell.specs.declared.values.CellValue.{CellValue}
 use Rattle.sea_cell.specs.declared.conversion.CellFault.{CellFault}
 use Rattle.sea_cell.specs.declared.cellular.Row.{Row}
@@ -33,19 +37,36 @@ abbrev pub first_at : {X Y : Type 0} → (X → Option Y) → List X → Option 
 first_at f [] = None
 first_at f (x ∷ xs) = or_else (f x) (first_at f xs)
 
+-- the type text
+abbrev pub is_text_kind : ColKind → Bool
+is_text_kind kind.Text = true
+is_text_kind _ = false
+
+-- a text column, which is the one kind that a table may be made with so far
+abbrev pub is_plain : NewColumn → Bool
+is_plain column = is_text_kind column.kind
+
+-- the operations that no base takes yet
+abbrev pub not_built : Op → Option OpRefusal
+not_built (InsertTable table columns) = if list_all is_plain columns then None else Some refusal.NotBuilt
+not_built (AppendRows table rows) = None
+not_built _ = Some refusal.NotBuilt
+
 -- a counter that would rise above its last value
 abbrev pub spent : Counter → ℕ → ℕ → ℕ → Option OpRefusal
 spent name value more last = if nat_lt last (value + more) then Some (refusal.NumbersSpent name) else None
 
--- each operation raises the version by one, and the next numbers by the rows, tables and columns that it makes
+-- the next numbers of the rows, tables and columns that an operation makes
+abbrev pub next_numbers_spent : Plain → Op → Option OpRefusal
+next_numbers_spent base (InsertTable table columns) =
+    or_else (spent counter.NextTable base.next_table 1 4294967295)
+    (spent counter.NextColumn base.next_column (length columns) 4294967295)
+next_numbers_spent base (AppendRows table rows) = spent counter.NextRow base.next_row (length rows) (2 ^ 62)
+next_numbers_spent base _ = None
+
+-- each operation raises the version by one, and the next numbers by what it makes
 abbrev pub numbers_spent : Plain → Op → Option OpRefusal
-numbers_spent base (InsertTable table columns) =
-    or_else (spent counter.Version base.version 1 (2 ^ 62))
-    (or_else (spent counter.NextTable base.next_table 1 4294967295)
-    (spent counter.NextColumn base.next_column (length columns) 4294967295))
-numbers_spent base (AppendRows table rows) =
-    or_else (spent counter.Version base.version 1 (2 ^ 62))
-    (spent counter.NextRow base.next_row (length rows) (2 ^ 62))
+numbers_spent base op = or_else (spent counter.Version base.version 1 (2 ^ 62)) (next_numbers_spent base op)
 
 -- the columns of the operation's table, if the base has it
 abbrev pub columns_in : Plain → List ℕ → List Column
@@ -54,6 +75,7 @@ columns_in base table = option_map_or (λ found. found.columns) (table_named bas
 abbrev pub no_table : Plain → Op → Option OpRefusal
 no_table base (InsertTable table columns) = None
 no_table base (AppendRows table rows) = if is_some (table_named base.tables table) then None else Some (refusal.NoTable table)
+no_table base _ = None
 
 -- a member that names no column
 abbrev pub missing_column : List Column → NamedCell → Option OpRefusal
@@ -66,6 +88,7 @@ missing_in columns rows = first_at (λ row. first_at (missing_column columns) ro
 abbrev pub no_column : Plain → Op → Option OpRefusal
 no_column base (InsertTable table columns) = None
 no_column base (AppendRows table rows) = missing_in (columns_in base table) rows
+no_column base _ = None
 
 -- a text that is no name
 abbrev pub bad_text : List ℕ → Option OpRefusal
@@ -78,12 +101,14 @@ bad_id id = if is_id id then None else Some (refusal.BadName id)
 abbrev pub bad_name : Op → Option OpRefusal
 bad_name (InsertTable table columns) = or_else (first_at (λ column. bad_text column.name) columns) (bad_text table)
 bad_name (AppendRows table rows) = first_at (λ row. option_and_then bad_id row.id) rows
+bad_name _ = None
 
 abbrev pub name_taken : Plain → Op → Option OpRefusal
 name_taken base (InsertTable table columns) =
     or_else (option_map refusal.NameTaken (first_repeat [] (map (λ column. column.name) columns)))
     (if is_some (table_named base.tables table) then Some (refusal.NameTaken table) else None)
 name_taken base (AppendRows table rows) = None
+name_taken base _ = None
 
 -- a cell that its column doesn't take
 abbrev pub refused_value : List ℕ → Result CellValue CellFault → Option OpRefusal
@@ -100,6 +125,7 @@ refused_in columns rows = first_at (λ row. first_at (refused_cell columns) row.
 abbrev pub bad_cell : Plain → Op → Option OpRefusal
 bad_cell base (InsertTable table columns) = None
 bad_cell base (AppendRows table rows) = refused_in (columns_in base table) rows
+bad_cell base _ = None
 
 -- the ids of the operation's table
 abbrev pub ids_in : Plain → List ℕ → List (List ℕ)
@@ -109,6 +135,7 @@ ids_in base table = option_map_or (λ found. map (λ row. row.id.0) found.rows) 
 abbrev pub duplicate_row : Plain → Op → Option OpRefusal
 duplicate_row base (InsertTable table columns) = None
 duplicate_row base (AppendRows table rows) = option_map refusal.DuplicateRow (first_repeat (ids_in base table) (ids_of base.next_row rows))
+duplicate_row base _ = None
 
 -- more than a limit allows
 abbrev pub above_limit : ℕ → ℕ → Option OpRefusal
@@ -118,6 +145,7 @@ above_limit limit count = if nat_lt limit count then Some (refusal.TooMany limit
 abbrev pub too_many : Plain → Op → Option OpRefusal
 too_many base (InsertTable table columns) = or_else (above_limit 64 (length base.tables + 1)) (above_limit 200 (length columns))
 too_many base (AppendRows table rows) = above_limit 1000 (length rows)
+too_many base _ = None
 
 -- a row whose encoding is too long, or that has none
 abbrev pub large_row : Row → Option OpRefusal
@@ -126,11 +154,13 @@ large_row row = if nat_lt 8192 (row_bytes_of row) then Some (refusal.RowTooBig (
 abbrev pub row_too_big : Plain → Moment → Op → Option OpRefusal
 row_too_big base moment (InsertTable table columns) = None
 row_too_big base moment (AppendRows table rows) = first_at large_row (rows_of (columns_in base table) moment base.next_row rows)
+row_too_big base moment _ = None
 
 -- the first refusal, in the order of the list in docs/formats.md
 abbrev pub refusal_of : Plain → Moment → Op → Option OpRefusal
 refusal_of base moment op =
-    or_else (numbers_spent base op)
+    or_else (not_built op)
+    (or_else (numbers_spent base op)
     (or_else (no_table base op)
     (or_else (no_column base op)
     (or_else (bad_name op)
@@ -138,4 +168,4 @@ refusal_of base moment op =
     (or_else (bad_cell base op)
     (or_else (duplicate_row base op)
     (or_else (too_many base op)
-    (row_too_big base moment op))))))))
+    (row_too_big base moment op)))))))))

@@ -71,6 +71,11 @@ fn applied(alloc: Global, base: &Plain, moment: Moment, op: &Op) -> Result<Plain
                 pairs: base.pairs.duplicate(alloc)?,
             })
         }
+        _ => {
+            let mut new = base.duplicate(alloc)?;
+            new.version += 1;
+            Ok(new)
+        }
     }
 }
 

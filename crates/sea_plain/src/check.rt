@@ -1,16 +1,18 @@
 // The first refusal of an operation: one check for each kind of refusal, in their order.
-ghost use Rattle.std.specs.Prelude.{◌≡◌, ◌+◌, ◌<◌, ◌≤◌, ◌^◌, None, length, option_and_then};
+ghost use Rattle.std.specs.Prelude.{◌≡◌, ◌+◌, ◌<◌, ◌≤◌, ◌^◌, None, length, map, option_and_then};
+ghost use Rattle.std.specs.List.{list_all};
 ghost use Rattle.sea_plain.specs.Checks.{Checks};
-ghost use Rattle.sea_plain.specs.Refusal.{refusal_of, spent, numbers_spent, columns_in, ids_in, no_table as no_table_in, missing_column, missing_in, no_column as no_column_in, bad_text, bad_id, bad_name as bad_name_in, name_taken as name_taken_in, refused_cell, refused_in, bad_cell as bad_cell_in, duplicate_row as duplicate_row_in, above_limit, too_many as too_many_in, large_row, row_too_big as row_too_big_in, first_at};
+ghost use Rattle.sea_plain.specs.Refusal.{refusal_of, is_plain as is_plain_of, not_built, spent, numbers_spent, columns_in, ids_in, no_table as no_table_in, missing_column, missing_in, no_column as no_column_in, bad_text, bad_id, bad_name as bad_name_in, name_taken as name_taken_in, refused_cell, refused_in, bad_cell as bad_cell_in, duplicate_row as duplicate_row_in, above_limit, too_many as too_many_in, large_row, row_too_big as row_too_big_in, first_at};
 
 use crate::base::Plain;
 use crate::lookup::{column_named, table_named};
-use crate::made::{ids_in_use, ids_of, names_of, rows_of};
-use crate::names::{first_repeat, is_id, is_name};
+use crate::made::{ids_of, names_of, rows_of};
+use crate::names::{first_repeat, first_repeat_after_rows, is_id, is_name};
 use crate::operation::{NamedCell, Op, OpRow};
 use crate::refusal::{Counter, OpRefusal};
 use sea_cell::{
-    CellFault, Column, Duplicate, Moment, NewColumn, Row, Text, cell_of_json, row_bytes,
+    CellFault, ColKind, Column, Duplicate, Moment, NewColumn, Row, Shared, Text, cell_of_json,
+    row_bytes,
 };
 use std::alloc::Global;
 
@@ -24,6 +26,7 @@ const LAST_KEY: u64 = 4_294_967_295;
 pub fn check(alloc: Global, base: &Plain, moment: Moment, op: &Op) -> Result<(), OpRefusal>
     ensures { Checks result (refusal_of base.now moment op.now) }
 {
+    built(op)?;
     numbers(base, op)?;
     no_table(alloc, base, op)?;
     no_column(alloc, base, op)?;
@@ -34,6 +37,36 @@ pub fn check(alloc: Global, base: &Plain, moment: Moment, op: &Op) -> Result<(),
     too_many(base, op)?;
     row_too_big(alloc, base, moment, op)?;
     Ok(())
+}
+
+// The operation is one that is built: an append_rows, or an insert_table with text columns alone.
+fn built(op: &Op) -> Result<(), OpRefusal>
+    ensures { Checks result (not_built op.now) }
+{
+    match op {
+        Op::InsertTable { table: _, columns } => {
+            if are_plain(columns.as_slice()) {
+                return Ok(());
+            }
+            Err(OpRefusal::NotBuilt)
+        }
+        Op::AppendRows { table: _, rows: _ } => Ok(()),
+        _ => Err(OpRefusal::NotBuilt),
+    }
+}
+
+// Text columns.
+fn are_plain(columns: &[NewColumn]) -> bool
+    ensures { result ≡ list_all is_plain_of columns.now }
+{
+    columns.iter().all(|column| is_plain(column))
+}
+
+// A text column.
+fn is_plain(column: &NewColumn) -> bool
+    ensures { result ≡ is_plain_of column.now }
+{
+    matches!(column.kind, ColKind::Text)
 }
 
 // No counter rises above its last value.
@@ -53,6 +86,7 @@ fn numbers(base: &Plain, op: &Op) -> Result<(), OpRefusal>
             room_for(Counter::NextRow, base.next_row, count, LAST_NUMBER)?;
             Ok(())
         }
+        _ => Ok(()),
     }
 }
 
@@ -87,6 +121,16 @@ fn columns_of_table<'a>(base: &'a Plain, name: &str) -> &'a [Column]
 {
     match table_named(base.tables.as_slice(), name) {
         Some(table) => table.columns.as_slice(),
+        None => &[],
+    }
+}
+
+// The rows of the table of a name, or none.
+fn rows_of_table<'a>(base: &'a Plain, name: &str) -> &'a [Shared<Row>]
+    ensures { map (λ row. row.id.0) result.now ≡ ids_in base.now name.now }
+{
+    match table_named(base.tables.as_slice(), name) {
+        Some(table) => table.rows.as_slice(),
         None => &[],
     }
 }
@@ -147,6 +191,7 @@ fn bad_name(alloc: Global, op: &Op) -> Result<(), OpRefusal>
             bad_row_id(alloc, rows.as_slice())?;
             Ok(())
         }
+        _ => Ok(()),
     }
 }
 
@@ -267,9 +312,9 @@ fn duplicate_row(alloc: Global, base: &Plain, op: &Op) -> Result<(), OpRefusal>
     let Op::AppendRows { table, rows } = op else {
         return Ok(());
     };
-    let used = ids_in_use(alloc, base, table.as_str())?;
+    let used = rows_of_table(base, table.as_str());
     let ids = ids_of(alloc, base.next_row, rows.as_slice())?;
-    if let Some(id) = first_repeat(alloc, used.as_slice(), ids.as_slice())? {
+    if let Some(id) = first_repeat_after_rows(alloc, used, ids.as_slice())? {
         return Err(OpRefusal::DuplicateRow { id });
     }
     Ok(())
@@ -291,6 +336,7 @@ fn too_many(base: &Plain, op: &Op) -> Result<(), OpRefusal>
             within(1000, rows.len())?;
             Ok(())
         }
+        _ => Ok(()),
     }
 }
 
@@ -314,7 +360,7 @@ fn row_too_big(alloc: Global, base: &Plain, moment: Moment, op: &Op) -> Result<(
     let columns = columns_of_table(base, table.as_str());
     let made = rows_of(alloc, columns, moment, base.next_row, rows.as_slice())?;
     for row in made.as_slice() {
-        fits_row(row)?;
+        fits_row(row.get())?;
     }
     Ok(())
 }

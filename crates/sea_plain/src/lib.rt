@@ -19,5 +19,8 @@ mod tests;
 pub use apply::{apply_plain, run_plain};
 pub use base::{LinkPair, LinkPairs, Plain, PlainTable, PlainTables};
 pub use lookup::{column_named, table_named};
-pub use operation::{Entries, Entry, NamedCell, NamedCells, Op, OpRow, OpRows};
+pub use operation::{
+    Entries, Entry, NamedCell, NamedCells, NewFilter, NewFilters, NewView, Op, OpRow, OpRows,
+    RowChange, RowChanges,
+};
 pub use refusal::{Counter, OpRefusal};

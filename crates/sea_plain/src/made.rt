@@ -9,7 +9,7 @@ use crate::lookup::{column_named, table_named};
 use crate::operation::{NamedCell, OpRow};
 use sea_cell::{
     CellFault, Cells, ColKey, Column, Columns, Duplicate, Moment, NewColumn, Row, RowId, Rows,
-    Text, Texts, cell_of_json,
+    Shared, Text, Texts, cell_of_json,
 };
 use sqlite_items::Items;
 use std::alloc::{AllocError, Global};
@@ -23,26 +23,6 @@ pub fn names_of(alloc: Global, columns: &[NewColumn]) -> Result<Texts, AllocErro
         names.push(column.name.duplicate(alloc)?)?;
     }
     Ok(names)
-}
-
-/// The ids of the rows of the table of a name, or none.
-pub fn ids_in_use(alloc: Global, base: &Plain, name: &str) -> Result<Texts, AllocError>
-    ensures { IfOk result (λ ids. ids ≡ ids_in base.now name.now) }
-{
-    match table_named(base.tables.as_slice(), name) {
-        Some(table) => ids_of_rows(alloc, table.rows.as_slice()),
-        None => Ok(Items::new(alloc)),
-    }
-}
-
-fn ids_of_rows(alloc: Global, rows: &[Row]) -> Result<Texts, AllocError>
-    ensures { IfOk result (λ ids. ids ≡ map (λ row. row.id.0) rows.now) }
-{
-    let mut ids = Items::new(alloc);
-    for row in rows {
-        ids.push(row.id.0.duplicate(alloc)?)?;
-    }
-    Ok(ids)
 }
 
 /// The ids of new rows that are numbered from `number`.
@@ -83,7 +63,8 @@ pub fn rows_of(
     let mut made = Items::new(alloc);
     let mut next = number;
     for row in rows {
-        made.push(row_of(alloc, columns, moment, next, row)?)?;
+        let row = row_of(alloc, columns, moment, next, row)?;
+        made.push(Shared::new(alloc, row)?)?;
         next += 1;
     }
     Ok(made)

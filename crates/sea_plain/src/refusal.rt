@@ -22,6 +22,8 @@ pub enum OpRefusal {
     Memory,
     /// The operation has no form.
     BadOperation,
+    /// The operation is one that no base takes yet.
+    NotBuilt,
     /// The operation would raise a number above its last value.
     NumbersSpent { counter: Counter },
     /// The base has no table of this name.

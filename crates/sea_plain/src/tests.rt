@@ -89,7 +89,7 @@ fn table_shown(alloc: Global, table: &PlainTable) -> Result<String, AllocError> 
         all.push_str(format!(in alloc; " {name}={}", column.key.0)?.as_str())?;
     }
     for row in table.rows.as_slice() {
-        all.push_str(row_shown(alloc, row)?.as_str())?;
+        all.push_str(row_shown(alloc, row.get())?.as_str())?;
     }
     Ok(all)
 }

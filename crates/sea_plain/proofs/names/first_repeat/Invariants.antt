@@ -1,6 +1,7 @@
 use Rattle.std.proofs.Common.{◌≡◌, ℕ, List, ◌++◌, take, drop}
 use Rattle.std.specs.BTreeSet.{contains_text}
-use Rattle.sea_plain.specs.Names.{is_among, first_repeat}
+use Rattle.sea_cell.specs.Once.{is_among}
+use Rattle.sea_plain.specs.Names.{first_repeat}
 use Rattle.sea_plain.proofs.names.first_repeat.Given as goal
 
 -- the set has the texts so far, and the first repeat is among what is left

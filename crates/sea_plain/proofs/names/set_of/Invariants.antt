@@ -1,6 +1,6 @@
 use Rattle.std.proofs.Common.{◌≡◌, ℕ, List, take}
 use Rattle.std.specs.BTreeSet.{contains_text}
-use Rattle.sea_plain.specs.Names.{is_among}
+use Rattle.sea_cell.specs.Once.{is_among}
 use Rattle.sea_plain.proofs.names.set_of.Given as goal
 
 abbrev pub invariant-loop-text : goal.invariant-loop-text

@@ -1,0 +1,114 @@
+// Reading the rows of operations.
+ghost use Rattle.std.specs.Prelude.{◌≡◌, ◌++◌, ℕ, List, Option, Some, None, IfOk, option_map, option_and_then, codes};
+ghost use Rattle.serde_json.specs.Find.{as_object, get, get_member};
+ghost use Rattle.serde_json.specs.View.{view, items_view, members_view};
+ghost use Rattle.sea_ops.specs.Operations.{each_of, each_at, row_of_json as row_of_data, row_with_id as row_with_id_of, change_of_json as change_of_data, change_of_row as change_of_row_data, cells_of_members as cells_of};
+
+use crate::members::items_at;
+use sea_cell::{RowId, Text, word_of_json};
+use sea_plain::{NamedCell, NamedCells, OpRow, OpRows, RowChange, RowChanges};
+use serde_json::{Map, Value};
+use sqlite_items::Items;
+use std::alloc::{AllocError, Global};
+
+/// The rows of the array under a name, or None where there is no array of nothing but rows.
+pub fn rows_at(alloc: Global, json: &Value, name: &str) -> Result<Option<OpRows>, AllocError>
+    ensures { IfOk result (λ rows. rows ≡ each_at row_of_data name.now (view json.now)) }
+{
+    match items_at(json, name) {
+        Some(items) => rows_of(alloc, items),
+        None => Ok(None),
+    }
+}
+
+fn rows_of(alloc: Global, items: &[Value]) -> Result<Option<OpRows>, AllocError>
+    ensures { IfOk result (λ rows. rows ≡ each_of row_of_data (items_view items.now)) }
+{
+    let mut rows = Items::new(alloc);
+    for item in items {
+        match row_of_json(alloc, item)? {
+            Some(row) => rows.push(row)?,
+            None => return Ok(None),
+        }
+    }
+    Ok(Some(rows))
+}
+
+/// The changes of rows in the array under a name, each a row with an id.
+pub fn changes_at(alloc: Global, json: &Value, name: &str) -> Result<Option<RowChanges>, AllocError>
+    ensures { IfOk result (λ changes. changes ≡ each_at change_of_data name.now (view json.now)) }
+{
+    match items_at(json, name) {
+        Some(items) => changes_of(alloc, items),
+        None => Ok(None),
+    }
+}
+
+fn changes_of(alloc: Global, items: &[Value]) -> Result<Option<RowChanges>, AllocError>
+    ensures { IfOk result (λ changes. changes ≡ each_of change_of_data (items_view items.now)) }
+{
+    let mut changes = Items::new(alloc);
+    for item in items {
+        match change_of_json(alloc, item)? {
+            Some(change) => changes.push(change)?,
+            None => return Ok(None),
+        }
+    }
+    Ok(Some(changes))
+}
+
+fn change_of_json(alloc: Global, json: &Value) -> Result<Option<RowChange>, AllocError>
+    ensures { IfOk result (λ change. change ≡ change_of_data (view json.now)) }
+{
+    match row_of_json(alloc, json)? {
+        Some(row) => Ok(change_of_row(row)),
+        None => Ok(None),
+    }
+}
+
+// A row with an id as the change of the row that has it.
+fn change_of_row(row: OpRow) -> Option<RowChange>
+    ensures { result ≡ change_of_row_data row }
+{
+    let OpRow { id, cells } = row;
+    match id {
+        Some(id) => Some(RowChange {
+            id: RowId(id),
+            cells,
+        }),
+        None => None,
+    }
+}
+
+fn row_of_json(alloc: Global, json: &Value) -> Result<Option<OpRow>, AllocError>
+    ensures { IfOk result (λ row. row ≡ row_of_data (view json.now)) }
+{
+    let Some(members) = json.as_object() else {
+        return Ok(None);
+    };
+    let cells = cells_of_members(alloc, members)?;
+    let Some(id) = json.get("_id") else {
+        return Ok(Some(OpRow { id: None, cells }));
+    };
+    let Some(text) = id.as_str() else {
+        return Ok(None);
+    };
+    let id = Some(Text::copy_of(alloc, text)?);
+    Ok(Some(OpRow { id, cells }))
+}
+
+// The cells of a row: its members but for the id.
+fn cells_of_members(alloc: Global, members: &Map<String, Value>) -> Result<NamedCells, AllocError>
+    ensures { IfOk result (λ cells. cells ≡ cells_of (members_view members.now.entries)) }
+{
+    let mut cells = Items::new(alloc);
+    for (name, json) in members {
+        if name.as_str() != "_id" {
+            cells.push(NamedCell {
+                name: Text::copy_of(alloc, name.as_str())?,
+                word: word_of_json(alloc, json)?,
+            })?;
+        }
+    }
+    Ok(cells)
+}
