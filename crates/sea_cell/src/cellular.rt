@@ -3,7 +3,7 @@ ghost use Rattle.std.specs.Prelude.{◌≡◌, [], IfOk, IfErr, OnOk, OnErr};
 ghost use Rattle.std.specs.Option.{option_copied};
 ghost use Rattle.sea_cell.specs.Cells.{IsCells, IsRising, cell_under, with_cell, IsAt, IsGap};
 
-use crate::duplicate::Duplicate;
+use crate::duplicate::{Duplicate, copies_of};
 use crate::keys::{ColKey, Moment, RowId};
 use crate::shared::Shared;
 use crate::values::CellValue;
@@ -166,17 +166,6 @@ impl Duplicate for Cells {
             cells: copies_of(alloc, &self.cells)?,
         })
     }
-}
-
-// Copies of cells, in their order.
-fn copies_of(alloc: Global, cells: &[Cell]) -> Result<Vec<Cell>, AllocError>
-    ensures { IfOk result (λ copies. copies.items ≡ cells.now) }
-{
-    let mut copies = Vec::with_capacity(alloc, cells.len())?;
-    for cell in cells {
-        copies.push(cell.duplicate(alloc)?)?;
-    }
-    Ok(copies)
 }
 
 impl Duplicate for Row {

@@ -13,10 +13,20 @@ pub trait Duplicate {
 
 impl<T: Duplicate + Drop> Duplicate for Items<T> {
     fn duplicate(&self, alloc: Global) -> Result<Items<T>, AllocError> {
-        let mut copies = Items::new(alloc);
-        for item in self.as_slice() {
-            copies.push(item.duplicate(alloc)?)?;
-        }
-        Ok(copies)
+        Ok(Items::from_vec(copies_of(alloc, self.as_slice())?))
     }
+}
+
+/// Copies of values, in their order.
+pub(crate) fn copies_of<T: Duplicate + Drop>(
+    alloc: Global,
+    items: &[T],
+) -> Result<Vec<T>, AllocError>
+    ensures { IfOk result (λ copies. copies.items ≡ items.now) }
+{
+    let mut copies = Vec::with_capacity(alloc, items.len())?;
+    for item in items {
+        copies.push(item.duplicate(alloc)?)?;
+    }
+    Ok(copies)
 }
