@@ -120,6 +120,7 @@ fn refusal_shown(alloc: Global, refusal: &OpRefusal) -> Result<String, AllocErro
     match refusal {
         OpRefusal::Memory => format!(in alloc; "Memory"),
         OpRefusal::BadOperation => format!(in alloc; "BadOperation"),
+        OpRefusal::NotBuilt => format!(in alloc; "NotBuilt"),
         OpRefusal::NumbersSpent { counter } => {
             format!(in alloc; "NumbersSpent {}", counter_shown(*counter))
         }
@@ -150,6 +151,17 @@ fn given(alloc: Global, base: &mut Plain, op: Op, moment: i64) -> Result<String,
         }
         Err(refusal) => refusal_shown(alloc, &refusal),
     }
+}
+
+#[test]
+fn an_operation_that_is_not_built(rt: HostRuntime) -> Result<(), Fail> {
+    let alloc = rt.alloc();
+    let mut base = Plain::new(alloc);
+    let table = Text::copy_of(alloc, "T")?;
+    let said = given(alloc, &mut base, Op::DeleteTable { table }, 0)?;
+    same(&rt, said.as_str(), "NotBuilt", "a table taken away");
+    assert_eq!(rt; base.version, 0);
+    Ok(())
 }
 
 // Stops a test where a text isn't the wanted one.
