@@ -12,7 +12,6 @@ use Rattle.sea_cell.specs.declared.keys.RowId.{RowId}
 use Rattle.sea_cell.specs.declared.layout.ColKind.{ColKind}
 use Rattle.sea_cell.specs.declared.layout.ColKind.TheVariants as kind
 use Rattle.sea_cell.specs.declared.layout.NewColumn.{NewColumn}
-use Rattle.sea_cell.specs.declared.layout.NewEnd.{NewEnd}
 use Rattle.sea_plain.specs.declared.operation.NamedCell.{NamedCell}
 use Rattle.sea_plain.specs.declared.operation.NewFilter.{NewFilter}
 use Rattle.sea_plain.specs.declared.operation.NewView.{NewView}

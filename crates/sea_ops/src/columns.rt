@@ -1,5 +1,5 @@
 // Reading the columns that are to be made.
-ghost use Rattle.std.specs.Prelude.{◌≡◌, ◌++◌, ℕ, List, Option, Some, None, not, IfOk, option_map, option_and_then, codes};
+ghost use Rattle.std.specs.Prelude.{◌≡◌, not, IfOk, option_map, option_and_then};
 ghost use Rattle.std.specs.List.{list_all};
 ghost use Rattle.serde_json.specs.Find.{get};
 ghost use Rattle.serde_json.specs.View.{view, items_view};

@@ -1,6 +1,6 @@
 // The members of JSON objects.
-ghost use Rattle.std.specs.Prelude.{◌≡◌, ◌++◌, ℕ, List, Option, Some, None, IfOk, map, option_map, option_and_then};
-ghost use Rattle.serde_json.specs.Find.{as_array, get};
+ghost use Rattle.std.specs.Prelude.{◌≡◌, IfOk, map, option_map};
+ghost use Rattle.serde_json.specs.Find.{as_array};
 ghost use Rattle.serde_json.specs.View.{view, items_view};
 ghost use Rattle.sea_cell.specs.Words.{texts_of as texts_of_items};
 ghost use Rattle.sea_ops.specs.Operations.{has_members as has_members_of, text_at as text_at_of, items_at as items_at_of, texts_at as texts_at_of, ids_at as ids_at_of, row_id as row_id_of, count_at as count_at_of};

@@ -1,8 +1,8 @@
 // Reading operations.
-ghost use Rattle.std.specs.Prelude.{◌≡◌, ◌++◌, ℕ, List, Option, Some, None, IfOk, IsErrOf, option_map, option_and_then, codes};
+ghost use Rattle.std.specs.Prelude.{◌≡◌, Some, None, IfOk, IsErrOf, option_map};
 ghost use Rattle.serde_json.specs.Read.{read};
 ghost use Rattle.serde_json.specs.View.{view};
-ghost use Rattle.sea_ops.specs.Operations.{op_of, op_of_json as op_of_data, table_op as table_op_of, column_op as column_op_of, row_op as row_op_of, link_op as link_op_of, view_op as view_op_of, insert_table_of, rename_table_of, delete_table_of, insert_column_of, rename_column_of, delete_column_of, add_options_of, append_rows_of, modify_rows_of, delete_rows_of, add_link_of, remove_link_of, insert_view_of, modify_view_of, delete_view_of, each_at, column_of_json as column_of_data, row_of_json as row_of_data, change_of_json as change_of_data, where_, make_table as make_table_of, leads_away as leads_away_of};
+ghost use Rattle.sea_ops.specs.Operations.{op_of, op_of_json as op_of_data, table_op as table_op_of, column_op as column_op_of, row_op as row_op_of, link_op as link_op_of, view_op as view_op_of, insert_table_of, rename_table_of, delete_table_of, insert_column_of, rename_column_of, delete_column_of, add_options_of, append_rows_of, modify_rows_of, delete_rows_of, add_link_of, remove_link_of, insert_view_of, modify_view_of, delete_view_of};
 
 use crate::columns::{column_at, columns_at, leads_away, make_table};
 use crate::fault::OpFault;

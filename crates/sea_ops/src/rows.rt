@@ -1,8 +1,7 @@
 // Reading the rows of operations.
-ghost use Rattle.std.specs.Prelude.{◌≡◌, ◌++◌, ℕ, List, Option, Some, None, IfOk, option_map, option_and_then, codes};
-ghost use Rattle.serde_json.specs.Find.{as_object, get, get_member};
+ghost use Rattle.std.specs.Prelude.{◌≡◌, IfOk};
 ghost use Rattle.serde_json.specs.View.{view, items_view, members_view};
-ghost use Rattle.sea_ops.specs.Operations.{each_of, each_at, row_of_json as row_of_data, row_with_id as row_with_id_of, change_of_json as change_of_data, change_of_row as change_of_row_data, cells_of_members as cells_of};
+ghost use Rattle.sea_ops.specs.Operations.{each_of, each_at, row_of_json as row_of_data, change_of_json as change_of_data, change_of_row as change_of_row_data, cells_of_members as cells_of};
 
 use crate::members::items_at;
 use sea_cell::{RowId, Text, word_of_json};

@@ -1,5 +1,5 @@
 // Reading the views of operations.
-ghost use Rattle.std.specs.Prelude.{◌≡◌, ◌++◌, ℕ, List, Option, Some, None, IfOk, option_map, option_and_then, codes};
+ghost use Rattle.std.specs.Prelude.{◌≡◌, IfOk, option_and_then};
 ghost use Rattle.serde_json.specs.Find.{get};
 ghost use Rattle.serde_json.specs.View.{view, items_view};
 ghost use Rattle.sea_ops.specs.Operations.{each_of, each_at, view_of_json as view_of_data, filter_of_json as filter_of_data, conjunction_of as conjunction_of_text};

@@ -1,8 +1,7 @@
-use Rattle.std.proofs.Common.{◌≡◌, ℕ, List, true, false, map, sym, ◌∙◌}
+use Rattle.std.proofs.Common.{◌≡◌, false, map, sym, ◌∙◌}
 use Rattle.std.proofs.lemmas.Result.{IfOk-weaker}
 use Rattle.std.specs.BTreeSet.{contains_text}
 use Rattle.std.specs.List.{list_any}
-use Rattle.sea_cell.specs.Once.{is_among}
 use Rattle.sea_plain.proofs.Repeats.{AreApart, apart_repeat, none_among, one_text}
 use Rattle.sea_plain.proofs.names.first_repeat_after_rows.Goals as goal
 
