@@ -1,10 +1,14 @@
 -- The cells of a row, as a finite map from column key to value: by rising key, and without Empty values.
-use Rattle.std.specs.Prelude.{◌≡◌, ℕ, ◌<◌, ◌≤◌, ◌==◌, List, [], ◌∷◌, ◌++◌, length, filter, nat_lt, Option, option_map, slice_index_or}
+use Rattle.std.specs.Prelude.{◌≡◌, ℕ, ◌<◌, ◌≤◌, ◌==◌, List, [], ◌∷◌, ◌++◌, length, filter, nat_lt, Option, option_map, unwrap_or, slice_index_or}
 use Rattle.std.specs.List.{find, AllByRecursion}
 use Rattle.sea_cell.specs.declared.keys.ColKey.{ColKey}
 use Rattle.sea_cell.specs.declared.values.CellValue.{CellValue}
-use Rattle.sea_cell.specs.declared.values.CellValue.TheVariants.{Empty}
+use Rattle.sea_cell.specs.declared.values.CellValue.TheVariants.{Empty, Moment}
 use Rattle.sea_cell.specs.declared.cellular.Cell.{Cell}
+use Rattle.sea_cell.specs.declared.cellular.Row.{Row}
+use Rattle.sea_cell.specs.declared.layout.ColKind.{ColKind}
+use Rattle.sea_cell.specs.declared.layout.ColKind.TheVariants as kind
+use Rattle.sea_cell.specs.declared.layout.Column.{Column}
 
 -- each key is above this one
 abbrev pub IsAbove : ColKey → List Cell → Type 0
@@ -59,3 +63,12 @@ pub record IsGap (cells : List Cell) (key : ColKey) (place : ℕ) : Type 0 where
   pub within : place ≤ length cells
   pub before : (i : ℕ) → i < place → key_at cells i < key.0
   pub after : (i : ℕ) → place ≤ i → i < length cells → key.0 < key_at cells i
+
+-- The cell of a row under a column of a type: when the row was made or last changed, or what is stored under the key.
+abbrev pub cell_of_type : ColKind → Row → ColKey → CellValue
+cell_of_type kind.Made row key = Moment row.made
+cell_of_type kind.Changed row key = Moment row.changed
+cell_of_type _ row key = unwrap_or (cell_under row.cells key) Empty
+
+abbrev pub cell_in : Row → Column → CellValue
+cell_in row column = cell_of_type column.kind row column.key

@@ -1,5 +1,5 @@
 -- The types of columns: the words that name them, and the sort of their values.
-use Rattle.std.specs.Prelude.{ℕ, List, [], ◌∷◌, Option, codes}
+use Rattle.std.specs.Prelude.{ℕ, List, [], ◌∷◌, Bool, true, false, Option, codes}
 use Rattle.std.specs.List.{find}
 use Rattle.std.specs.Str.{bytes_eq}
 use Rattle.sea_cell.specs.declared.kinds.Sort.{Sort}
@@ -42,3 +42,9 @@ sort_of_kind kind.People = sort.List
 sort_of_kind kind.Link = sort.List
 sort_of_kind kind.Made = sort.Moment
 sort_of_kind kind.Changed = sort.Moment
+
+-- the types whose cells are options
+abbrev pub has_options : ColKind → Bool
+has_options kind.Select = true
+has_options kind.Multi = true
+has_options _ = false

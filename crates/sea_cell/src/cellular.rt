@@ -1,10 +1,12 @@
 // Rows and their cells.
-ghost use Rattle.std.specs.Prelude.{◌≡◌, [], IfOk, IfErr, OnOk, OnErr};
+ghost use Rattle.std.specs.Prelude.{◌≡◌, [], unwrap_or, IfOk, IfErr, OnOk, OnErr};
 ghost use Rattle.std.specs.Option.{option_copied};
-ghost use Rattle.sea_cell.specs.Cells.{IsCells, IsRising, cell_under, with_cell, IsAt, IsGap};
+ghost use Rattle.sea_cell.specs.Cells.{IsCells, IsRising, cell_under, with_cell, cell_in as cell_in_row, IsAt, IsGap};
+ghost use Rattle.sea_cell.specs.declared.values.CellValue.TheVariants.{Empty};
 
 use crate::duplicate::{Duplicate, copies_of};
 use crate::keys::{ColKey, Moment, RowId};
+use crate::layout::{ColKind, Column};
 use crate::shared::Shared;
 use crate::values::CellValue;
 use sqlite_items::Items;
@@ -82,6 +84,27 @@ impl Cells {
         ensures err { OnErr result (self.new ≡ self.old) }
     {
         put(&mut self.cells, key, value)
+    }
+}
+
+/// The cell of a row under a column. That of a ctime or mtime column is when the row was made or last changed.
+pub fn cell_in(alloc: Global, row: &Row, column: &Column) -> Result<CellValue, AllocError>
+    ensures { IfOk result (λ value. value ≡ cell_in_row row.now column.now) }
+{
+    match column.kind {
+        ColKind::Made => Ok(CellValue::Moment(row.made)),
+        ColKind::Changed => Ok(CellValue::Moment(row.changed)),
+        _ => stored_in(alloc, row, column.key),
+    }
+}
+
+// What a row stores under a key.
+fn stored_in(alloc: Global, row: &Row, key: ColKey) -> Result<CellValue, AllocError>
+    ensures { IfOk result (λ value. value ≡ unwrap_or (cell_under row.now.cells key) Empty) }
+{
+    match row.cells.get(key) {
+        Some(value) => Ok(value.duplicate(alloc)?),
+        None => Ok(CellValue::Empty),
     }
 }
 

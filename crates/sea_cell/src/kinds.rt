@@ -1,7 +1,7 @@
 // The types of columns by their words.
 ghost use Rattle.std.specs.Prelude.{◌≡◌, Some};
 ghost use Rattle.sea_cell.specs.declared.layout.ColKind.{ColKind};
-ghost use Rattle.sea_cell.specs.Kinds.{word_of_kind, kind_of, sort_of_kind};
+ghost use Rattle.sea_cell.specs.Kinds.{word_of_kind, kind_of, sort_of_kind, has_options as has_options_of};
 
 use crate::layout::ColKind;
 
@@ -76,4 +76,11 @@ pub fn sort_of(kind: ColKind) -> Sort
         ColKind::Date | ColKind::Made | ColKind::Changed => Sort::Moment,
         ColKind::Multi | ColKind::People | ColKind::Link => Sort::List,
     }
+}
+
+/// Whether the cells of a type are options of their column.
+pub fn has_options(kind: ColKind) -> bool
+    ensures { result ≡ has_options_of kind }
+{
+    matches!(kind, ColKind::Select | ColKind::Multi)
 }

@@ -23,13 +23,13 @@ mod text_type;
 mod values;
 mod words;
 
-pub use cellular::{Cell, Cells, Row, Rows};
+pub use cellular::{Cell, Cells, Row, Rows, cell_in};
 pub use conversion::{CellFault, cell_of_json, json_of_cell};
 pub use duplicate::Duplicate;
 pub use keys::{ColKey, Ids, Moment, RowId, TableNo};
-pub use kinds::{Sort, kind_of_word, sort_of, type_word, words_name_kinds};
+pub use kinds::{Sort, has_options, kind_of_word, sort_of, type_word, words_name_kinds};
 pub use layout::{ColKind, Column, Columns, LinkEnd, NewColumn, NewColumns, NewEnd};
-pub use once::{is_among, no_text_goes_or_stays_twice, without_repeats};
+pub use once::{insert_text, is_among, no_text_goes_or_stays_twice, without_repeats};
 pub use selection::{Filter, Filters, Term, Test, View, Views};
 pub use shared::Shared;
 pub use sizes::row_bytes;

@@ -23,7 +23,7 @@ pub fn without_repeats(alloc: Global, texts: &[Text]) -> Result<Texts, AllocErro
     let mut seen = BTreeSet::new(alloc);
     let mut kept = Texts::new(alloc);
     for text in texts {
-        if add(alloc, &mut seen, text.as_str())? {
+        if insert_text(alloc, &mut seen, text.as_str())? {
             kept.push(text.duplicate(alloc)?)?;
         }
     }
@@ -36,8 +36,12 @@ pub fn no_text_goes_or_stays_twice()
     ensures single { (texts : List (List ℕ)) (text : List ℕ) → count_by (bytes_eq text) (once texts) ≤ 1 }
 {}
 
-// Adds a text, and answers whether it is new.
-fn add(alloc: Global, seen: &mut BTreeSet<String>, text: &str) -> Result<bool, AllocError>
+/// Puts a text into a set, and answers whether it is new there.
+pub fn insert_text(
+    alloc: Global,
+    seen: &mut BTreeSet<String>,
+    text: &str,
+) -> Result<bool, AllocError>
     ensures new { IfOk result (λ new. new ≡ not (contains_text seen.old text.now)) }
     ensures after { OnOk result ((other : List ℕ) → contains_text seen.new other ≡ (contains_text seen.old other || bytes_eq text.now other)) }
 {

@@ -14,13 +14,13 @@ loop-text-preserved c =
     let text = c.text-item.result in
     let at = c.loop-text.text-index in
     let next = at_place texts at text (omega arith) c.text-item.is in
-    let fresh = rw c.as_str.ensures at c.in_ok-add.ensures.new in
-    let adds = rw c.as_str.ensures at c.in_ok-add.ensures.after in
+    let fresh = rw c.as_str.ensures at c.in_ok-insert_text.ensures.new in
+    let adds = rw c.as_str.ensures at c.in_ok-insert_text.ensures.after in
     elim c.if-branch.branch [
       | then-branch+in_ok-duplicate+in_ok-push w ↦
-          rw (w.kept-is, w.in_ok-push.ensures.ok, w.in_ok-duplicate.ensures) (once-new (contains_text c.loop-text.seen) (contains_text c.add.new.seen) texts c.loop-text.kept (drop at texts) text (drop (at + 1) texts) c.loop-text.invariant next adds (sym w.if-branch.true ∙ fresh))
+          rw (w.kept-is, w.in_ok-push.ensures.ok, w.in_ok-duplicate.ensures) (once-new (contains_text c.loop-text.seen) (contains_text c.insert_text.new.seen) texts c.loop-text.kept (drop at texts) text (drop (at + 1) texts) c.loop-text.invariant next adds (sym w.if-branch.true ∙ fresh))
       | else-branch w ↦
-          rw w.kept-is (once-old (contains_text c.loop-text.seen) (contains_text c.add.new.seen) texts c.loop-text.kept (drop at texts) text (drop (at + 1) texts) c.loop-text.invariant next adds (sym w.if-branch.false ∙ fresh))
+          rw w.kept-is (once-old (contains_text c.loop-text.seen) (contains_text c.insert_text.new.seen) texts c.loop-text.kept (drop at texts) text (drop (at + 1) texts) c.loop-text.invariant next adds (sym w.if-branch.false ∙ fresh))
     ]
 
 pub returns : goal.returns

@@ -3,7 +3,7 @@ use Rattle.std.proofs.lemmas.Map.Text.{btree_set_updates_text}
 use Rattle.std.specs.BTreeSet.{contains_text}
 use Rattle.std.specs.Str.{bytes_eq}
 use Rattle.std.specs.String.{string_bytes}
-use Rattle.sea_cell.proofs.once.add.Goals as goal
+use Rattle.sea_cell.proofs.once.insert_text.Goals as goal
 
 or_turned : (b x : Bool) → cond b true x ≡ (x || b)
 or_turned true true = refl

@@ -1,0 +1,12 @@
+//! The conditions of views: which rows a view selects.
+//!
+//! It stands on cells, columns and rows. The contract that matters to the crates above is that of `selected`: the ids of
+//! the rows that meet the view's filters, in their order, each row judged by its cells alone.
+#![tactic(auto)]
+
+mod meeting;
+mod selecting;
+#[cfg(test)]
+mod tests;
+
+pub use selecting::{meets, selected};

@@ -1,0 +1,18 @@
+//! The pairs of rows that the links of a base join.
+//!
+//! It stands on the row ids of `sea_cell`. The contract that matters to the crates above is that of `Links`: a list of
+//! pairs in the order in which they were added, none of them twice, and after each call the list that `specs/Pairs.antt`
+//! defines. A removal takes no memory, and want of memory at an addition leaves the list as it was.
+#![tactic(auto)]
+
+mod fault;
+mod laws;
+mod links;
+mod pair;
+#[cfg(test)]
+mod tests;
+
+pub use fault::{LinkFault, NoLink};
+pub use laws::both_sides_tell_the_same;
+pub use links::Links;
+pub use pair::{LinkPair, LinkPairs};

@@ -1,0 +1,4 @@
+pub mod Tables
+pub mod Layout
+pub mod Changes
+pub mod Places

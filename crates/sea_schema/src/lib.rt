@@ -1,0 +1,16 @@
+//! The schema of a base: its tables without their rows, and the numbers that come next.
+//!
+//! It stands on the columns and views of `sea_cell`. The contract that matters to the crates above is that of the
+//! changing calls of `Schema`: each makes the change that is defined in `specs/Layout.antt`, of one table or of the
+//! schema, and no other; want of memory is its one refusal, and leaves the schema as it was. Numbers of tables and keys
+//! of columns are given by counters that only rise, so none of them is used again.
+#![tactic(auto)]
+
+mod places;
+mod schema;
+mod table;
+#[cfg(test)]
+mod tests;
+
+pub use schema::Schema;
+pub use table::{Table, Tables, more_options};

@@ -1,0 +1,322 @@
+// Tables without their rows, and the numbers that come next.
+ghost use Rattle.std.specs.Prelude.{◌≡◌, ◌+◌, ◌<◌, ◌^◌, ◌++◌, ◌∷◌, [], map, filter, length, IfOk, OnOk, OnErr};
+ghost use Rattle.std.specs.Option.{option_copied};
+ghost use Rattle.std.specs.Str.{bytes_eq};
+ghost use Rattle.sea_schema.specs.Tables.{table_named, with_name, with_column, with_column_name, with_options, without_column, with_view, without_view};
+ghost use Rattle.sea_schema.specs.Layout.{empty_layout, if_table, in_table, with_table, without_table, with_new_column, is_other_table as is_other_table_of};
+ghost use Rattle.sea_schema.specs.Changes.{change_of};
+ghost use Rattle.sea_schema.specs.Places.{KeepsNames};
+
+use crate::places::{Places, found, places_of};
+use crate::table::{Table, Tables};
+use sea_cell::{ColKey, Duplicate, NewColumn, Shared, TableNo, Texts, View};
+use sqlite_items::Items;
+use std::alloc::{AllocError, Global};
+use std::collections::BTreeMap;
+use std::marker::Model;
+
+/// The tables of a base without their rows, in order of number, and the numbers that come next. Copies share the tables.
+#[derive(Drop)]
+pub struct Schema {
+    alloc: Global,
+    tables: Tables,
+    places: Places,
+    next_table: u32,
+    next_column: u32,
+    next_link: u32,
+}
+
+impl Model for Schema {
+    ghost use Rattle.std.specs.BTreeMap.{get_by_text};
+    ghost use Rattle.sea_schema.specs.Layout.{Layout};
+    ghost use Rattle.sea_schema.specs.Places.{IsPlaces};
+
+    ghost Value = { Layout };
+
+    ghost view = { λ it. record
+        { tables = it.tables; next_table = it.next_table; next_column = it.next_column; next_link = it.next_link } };
+
+    ghost invariant = { λ it. IsPlaces (get_by_text it.places) it.tables };
+}
+
+// A change of one table.
+#[derive(Clone, Copy)]
+enum Change<'a> {
+    Name(&'a str),
+    Column(ColKey, &'a NewColumn),
+    ColumnName(&'a str, &'a str),
+    Options(&'a str, &'a Texts),
+    WithoutColumn(&'a str),
+    View(&'a View),
+    WithoutView(&'a str),
+}
+
+impl Schema {
+    /// A schema without tables. Tables, columns and links are numbered from 1. It takes no memory.
+    pub fn new(alloc: Global) -> Schema
+        ensures { result ≡ empty_layout }
+    {
+        Schema {
+            alloc,
+            tables: Items::new(alloc),
+            places: BTreeMap::new(alloc),
+            next_table: 1,
+            next_column: 1,
+            next_link: 1,
+        }
+    }
+
+    /// The table of a name, where there is one. It takes no memory.
+    pub fn table(&self, name: &str) -> Option<&Table>
+        ensures { option_copied result ≡ table_named self.now.tables name.now }
+    {
+        found(self.tables.as_slice(), &self.places, name)
+    }
+
+    /// The tables in order of number.
+    pub fn tables(&self) -> &[Shared<Table>]
+        ensures { result.now ≡ self.now.tables }
+    {
+        self.tables.as_slice()
+    }
+
+    /// The number of the next table that is added.
+    pub fn next_table(&self) -> u32
+        ensures { result ≡ self.now.next_table }
+    {
+        self.next_table
+    }
+
+    /// The key of the next column that is added.
+    pub fn next_column(&self) -> u32
+        ensures { result ≡ self.now.next_column }
+    {
+        self.next_column
+    }
+
+    /// The number of the next link that is added.
+    pub fn next_link(&self) -> u32
+        ensures { result ≡ self.now.next_link }
+    {
+        self.next_link
+    }
+
+    /// Adds a table at the end, with the next number. Its columns get the next keys. No column is a link column, and both
+    /// counters stay below 2^32.
+    ///
+    /// # Errors
+    /// Want of memory, which leaves the schema as it was. The same is true of each change below, and a name that no table
+    /// has changes no table.
+    pub fn add_table(&mut self, name: &str, columns: &[NewColumn]) -> Result<(), AllocError>
+        requires number { self.old.next_table + 1 < 2 ^ 32 }
+        requires keys { self.old.next_column + length columns.now < 2 ^ 32 }
+        ensures ok { OnOk result (self.new ≡ with_table name.now columns.now self.old) }
+        ensures err { OnErr result (self.new ≡ self.old) }
+    {
+        let number = TableNo(self.next_table);
+        let table = Table::new(self.alloc, number, self.next_column, name, columns)?;
+        let mut tables = self.tables.duplicate(self.alloc)?;
+        tables.push(Shared::new(self.alloc, table)?)?;
+        self.put_tables(tables)?;
+        self.next_table += 1;
+        self.next_column += columns.len() as u32;
+        Ok(())
+    }
+
+    /// Gives a table another name.
+    pub fn rename_table(&mut self, table: &str, to: &str) -> Result<(), AllocError>
+        ensures ok { OnOk result (self.new ≡ in_table table.now (with_name to.now) self.old) }
+        ensures err { OnErr result (self.new ≡ self.old) }
+    {
+        let tables = self.changed(table, &Change::Name(to))?;
+        self.put_tables(tables)?;
+        Ok(())
+    }
+
+    /// Removes a table. Its number and the keys of its columns are not given again.
+    pub fn remove_table(&mut self, table: &str) -> Result<(), AllocError>
+        ensures ok { OnOk result (self.new ≡ without_table table.now self.old) }
+        ensures err { OnErr result (self.new ≡ self.old) }
+    {
+        let tables = other_tables(self.alloc, self.tables.as_slice(), table)?;
+        self.put_tables(tables)?;
+        Ok(())
+    }
+
+    /// Adds a column at the end of a table, with the next key. It is no link column, and the counter stays below 2^32.
+    pub fn add_column(&mut self, table: &str, column: &NewColumn) -> Result<(), AllocError>
+        requires { self.old.next_column + 1 < 2 ^ 32 }
+        ensures ok { OnOk result (self.new ≡ with_new_column table.now column.now self.old) }
+        ensures err { OnErr result (self.new ≡ self.old) }
+    {
+        let key = ColKey(self.next_column);
+        self.change(table, &Change::Column(key, column))?;
+        self.next_column += 1;
+        Ok(())
+    }
+
+    /// Gives a column of a table another name.
+    pub fn rename_column(&mut self, table: &str, column: &str, to: &str) -> Result<(), AllocError>
+        ensures ok { OnOk result (self.new ≡ in_table table.now (with_column_name column.now to.now) self.old) }
+        ensures err { OnErr result (self.new ≡ self.old) }
+    {
+        self.change(table, &Change::ColumnName(column, to))?;
+        Ok(())
+    }
+
+    /// Removes a column of a table, and the filters that ask for its cells. Its key is not given again.
+    pub fn remove_column(&mut self, table: &str, column: &str) -> Result<(), AllocError>
+        ensures ok { OnOk result (self.new ≡ in_table table.now (without_column column.now) self.old) }
+        ensures err { OnErr result (self.new ≡ self.old) }
+    {
+        self.change(table, &Change::WithoutColumn(column))?;
+        Ok(())
+    }
+
+    /// Adds the options that a column of a table doesn't have yet, at the end.
+    pub fn add_options(
+        &mut self,
+        table: &str,
+        column: &str,
+        options: &Texts,
+    ) -> Result<(), AllocError>
+        ensures ok { OnOk result (self.new ≡ in_table table.now (with_options column.now options.now) self.old) }
+        ensures err { OnErr result (self.new ≡ self.old) }
+    {
+        self.change(table, &Change::Options(column, options))?;
+        Ok(())
+    }
+
+    /// Puts a view into a table, in the place of the one of its name, else at the end.
+    pub fn set_view(&mut self, table: &str, view: View) -> Result<(), AllocError>
+        ensures ok { OnOk result (self.new ≡ in_table table.now (with_view view) self.old) }
+        ensures err { OnErr result (self.new ≡ self.old) }
+    {
+        self.change(table, &Change::View(&view))?;
+        Ok(())
+    }
+
+    /// Removes a view of a table.
+    pub fn remove_view(&mut self, table: &str, view: &str) -> Result<(), AllocError>
+        ensures ok { OnOk result (self.new ≡ in_table table.now (without_view view.now) self.old) }
+        ensures err { OnErr result (self.new ≡ self.old) }
+    {
+        self.change(table, &Change::WithoutView(view))?;
+        Ok(())
+    }
+
+    // Puts tables in the place of those that there are.
+    fn put_tables(&mut self, tables: Tables) -> Result<(), AllocError>
+        ensures ok { OnOk result (self.new ≡ record self.old { tables = tables }) }
+        ensures err { OnErr result (self.new ≡ self.old) }
+    {
+        let places = places_of(self.alloc, tables.as_slice())?;
+        self.tables = tables;
+        self.places = places;
+        Ok(())
+    }
+
+    // Makes a change of the table of a name that leaves it its name, so that the places stay.
+    fn change(&mut self, name: &str, change: &Change) -> Result<(), AllocError>
+        requires { KeepsNames (change_of change.now) }
+        ensures ok { OnOk result (self.new ≡ in_table name.now (change_of change.now) self.old) }
+        ensures err { OnErr result (self.new ≡ self.old) }
+    {
+        let tables = self.changed(name, change)?;
+        self.tables = tables;
+        Ok(())
+    }
+
+    // The tables with a change of the one of a name.
+    fn changed(&self, name: &str, change: &Change) -> Result<Tables, AllocError>
+        ensures { IfOk result (λ tables. tables ≡ map (if_table name.now (change_of change.now)) self.now.tables) }
+    {
+        Ok(changed_tables(self.alloc, self.tables.as_slice(), name, change)?)
+    }
+}
+
+impl Duplicate for Schema {
+    fn duplicate(&self, alloc: Global) -> Result<Schema, AllocError> {
+        Ok(Schema {
+            alloc,
+            tables: self.tables.duplicate(alloc)?,
+            places: places_of(alloc, self.tables.as_slice())?,
+            next_table: self.next_table,
+            next_column: self.next_column,
+            next_link: self.next_link,
+        })
+    }
+}
+
+// Tables with a change of the one of a name.
+fn changed_tables(
+    alloc: Global,
+    tables: &[Shared<Table>],
+    name: &str,
+    change: &Change,
+) -> Result<Tables, AllocError>
+    ensures { IfOk result (λ new. new ≡ map (if_table name.now (change_of change.now)) tables.now) }
+{
+    let mut new = Items::new(alloc);
+    for table in tables {
+        new.push(changed_if(alloc, table, name, change)?)?;
+    }
+    Ok(new)
+}
+
+// A table with a change if it is the one of this name.
+fn changed_if(
+    alloc: Global,
+    table: &Shared<Table>,
+    name: &str,
+    change: &Change,
+) -> Result<Shared<Table>, AllocError>
+    ensures { IfOk result (λ new. new ≡ if_table name.now (change_of change.now) table.now) }
+{
+    if is_table(table.get(), name) {
+        return Shared::new(alloc, changed_table(alloc, table.get(), change)?);
+    }
+    table.duplicate(alloc)
+}
+
+// A table with a change.
+fn changed_table(alloc: Global, table: &Table, change: &Change) -> Result<Table, AllocError>
+    ensures { IfOk result (λ new. new ≡ change_of change.now table.now) }
+{
+    match change {
+        Change::Name(to) => table.with_name(alloc, to),
+        Change::Column(key, column) => table.with_column(alloc, *key, column),
+        Change::ColumnName(column, to) => table.with_column_name(alloc, column, to),
+        Change::Options(column, options) => table.with_options(alloc, column, options),
+        Change::WithoutColumn(column) => table.without_column(alloc, column),
+        Change::View(view) => table.with_view(alloc, view),
+        Change::WithoutView(view) => table.without_view(alloc, view),
+    }
+}
+
+// The table has this name.
+fn is_table(table: &Table, name: &str) -> bool
+    ensures { result ≡ bytes_eq table.now.name name.now }
+{
+    table.name.as_str() == name
+}
+
+// The tables of other names.
+fn other_tables(alloc: Global, tables: &[Shared<Table>], name: &str) -> Result<Tables, AllocError>
+    ensures { IfOk result (λ kept. kept ≡ filter (is_other_table_of name.now) tables.now) }
+{
+    let mut kept = Items::new(alloc);
+    for table in tables {
+        if is_other_table(table.get(), name) {
+            kept.push(table.duplicate(alloc)?)?;
+        }
+    }
+    Ok(kept)
+}
+
+// The table has another name.
+fn is_other_table(table: &Table, name: &str) -> bool
+    ensures { result ≡ is_other_table_of name.now table.now }
+{
+    table.name.as_str() != name
+}

@@ -1,0 +1,417 @@
+// Tables without their rows.
+ghost use Rattle.std.specs.Prelude.{◌≡◌, ◌+◌, ◌<◌, ◌^◌, ◌++◌, ◌∷◌, [], map, filter, length, IfOk};
+ghost use Rattle.std.specs.Option.{option_copied};
+ghost use Rattle.std.specs.List.{list_any};
+ghost use Rattle.sea_cell.specs.Once.{once};
+ghost use Rattle.sea_schema.specs.Tables.{column_named, key_named, view_named, column_of as column_for, columns_of as columns_for, table_of, with_name, with_column, if_named, column_with_name, with_column_name, column_with_options, with_options, is_view as is_view_of, if_view, put_view, with_view, is_other_view as is_other_view_of, without_view, has_other_name as has_other_name_of, is_of_other as is_of_other_of, without_filters, without_column};
+
+use sea_cell::{
+    ColKey, Column, Columns, Duplicate, Filter, Filters, NewColumn, Shared, TableNo, Text, Texts,
+    View, Views, without_repeats,
+};
+use sqlite_items::Items;
+use std::alloc::{AllocError, Global};
+
+/// A table without its rows: its number, its name, and its columns and views in the order in which they were added.
+#[derive(Drop)]
+pub struct Table {
+    pub no: TableNo,
+    pub name: Text,
+    pub columns: Columns,
+    pub views: Views,
+}
+
+/// Tables in order of number. Their copies share them.
+pub type Tables = Items<Shared<Table>>;
+
+impl Table {
+    /// A new table without views, whose columns have their keys from `key` on. Repeats among the options of a column
+    /// count once. No column is a link column.
+    pub fn new(
+        alloc: Global,
+        no: TableNo,
+        key: u32,
+        name: &str,
+        columns: &[NewColumn],
+    ) -> Result<Table, AllocError>
+        requires { key + length columns.now < 2 ^ 32 }
+        ensures { IfOk result (λ table. table ≡ table_of no.0 key name.now columns.now) }
+    {
+        Ok(Table {
+            no,
+            name: Text::copy_of(alloc, name)?,
+            columns: columns_of(alloc, key, columns)?,
+            views: Items::new(alloc),
+        })
+    }
+
+    /// The column of a name, where there is one. It takes no memory.
+    pub fn column(&self, name: &str) -> Option<&Column>
+        ensures { option_copied result ≡ column_named self.now.columns name.now }
+    {
+        self.columns
+            .as_slice()
+            .iter()
+            .find(|column| column.name.as_str() == name)
+    }
+
+    /// The key of the column of a name, where there is one. It takes no memory.
+    pub fn key_of(&self, name: &str) -> Option<ColKey>
+        ensures { result ≡ key_named self.now.columns name.now }
+    {
+        match self.column(name) {
+            Some(column) => Some(column.key),
+            None => None,
+        }
+    }
+
+    /// The view of a name, where there is one. It takes no memory.
+    pub fn view(&self, name: &str) -> Option<&View>
+        ensures { option_copied result ≡ view_named self.now.views name.now }
+    {
+        self.views
+            .as_slice()
+            .iter()
+            .find(|view| view.name.as_str() == name)
+    }
+
+    /// The table with another name.
+    pub fn with_name(&self, alloc: Global, to: &str) -> Result<Table, AllocError>
+        ensures { IfOk result (λ table. table ≡ with_name to.now self.now) }
+    {
+        Ok(Table {
+            no: self.no,
+            name: Text::copy_of(alloc, to)?,
+            columns: self.columns.duplicate(alloc)?,
+            views: self.views.duplicate(alloc)?,
+        })
+    }
+
+    /// The table with one column more, at the end. The column is no link column.
+    pub fn with_column(
+        &self,
+        alloc: Global,
+        key: ColKey,
+        column: &NewColumn,
+    ) -> Result<Table, AllocError>
+        ensures { IfOk result (λ table. table ≡ with_column key.0 column.now self.now) }
+    {
+        let mut table = self.duplicate(alloc)?;
+        table.columns.push(column_of(alloc, key.0, column)?)?;
+        Ok(table)
+    }
+
+    /// The table with another name for a column.
+    pub fn with_column_name(
+        &self,
+        alloc: Global,
+        column: &str,
+        to: &str,
+    ) -> Result<Table, AllocError>
+        ensures { IfOk result (λ table. table ≡ with_column_name column.now to.now self.now) }
+    {
+        Ok(Table {
+            no: self.no,
+            name: self.name.duplicate(alloc)?,
+            columns: columns_with_name(alloc, self.columns.as_slice(), column, to)?,
+            views: self.views.duplicate(alloc)?,
+        })
+    }
+
+    /// The table with more options for a select column: those that aren't there yet, at the end.
+    pub fn with_options(
+        &self,
+        alloc: Global,
+        column: &str,
+        options: &Texts,
+    ) -> Result<Table, AllocError>
+        ensures { IfOk result (λ table. table ≡ with_options column.now options.now self.now) }
+    {
+        Ok(Table {
+            no: self.no,
+            name: self.name.duplicate(alloc)?,
+            columns: columns_with_options(alloc, self.columns.as_slice(), column, options)?,
+            views: self.views.duplicate(alloc)?,
+        })
+    }
+
+    /// The table without a column. The filters that ask for its cells go too.
+    pub fn without_column(&self, alloc: Global, column: &str) -> Result<Table, AllocError>
+        ensures { IfOk result (λ table. table ≡ without_column column.now self.now) }
+    {
+        let gone = self.key_of(column);
+        Ok(Table {
+            no: self.no,
+            name: self.name.duplicate(alloc)?,
+            columns: columns_without(alloc, self.columns.as_slice(), column)?,
+            views: views_without(alloc, self.views.as_slice(), gone)?,
+        })
+    }
+
+    /// The table with a view: in the place of the one of its name, else at the end.
+    pub fn with_view(&self, alloc: Global, view: &View) -> Result<Table, AllocError>
+        ensures { IfOk result (λ table. table ≡ with_view view.now self.now) }
+    {
+        Ok(Table {
+            no: self.no,
+            name: self.name.duplicate(alloc)?,
+            columns: self.columns.duplicate(alloc)?,
+            views: views_with(alloc, &self.views, view)?,
+        })
+    }
+
+    /// The table without a view.
+    pub fn without_view(&self, alloc: Global, view: &str) -> Result<Table, AllocError>
+        ensures { IfOk result (λ table. table ≡ without_view view.now self.now) }
+    {
+        Ok(Table {
+            no: self.no,
+            name: self.name.duplicate(alloc)?,
+            columns: self.columns.duplicate(alloc)?,
+            views: other_views(alloc, self.views.as_slice(), view)?,
+        })
+    }
+}
+
+impl Duplicate for Table {
+    fn duplicate(&self, alloc: Global) -> Result<Table, AllocError> {
+        Ok(Table {
+            no: self.no,
+            name: self.name.duplicate(alloc)?,
+            columns: self.columns.duplicate(alloc)?,
+            views: self.views.duplicate(alloc)?,
+        })
+    }
+}
+
+// New columns whose keys are given from `key`.
+fn columns_of(alloc: Global, key: u32, columns: &[NewColumn]) -> Result<Columns, AllocError>
+    requires { key + length columns.now < 2 ^ 32 }
+    ensures { IfOk result (λ made. made ≡ columns_for key columns.now) }
+{
+    let mut made = Items::new(alloc);
+    let mut next = key;
+    for column in columns {
+        made.push(column_of(alloc, next, column)?)?;
+        next += 1;
+    }
+    Ok(made)
+}
+
+// A new column.
+fn column_of(alloc: Global, key: u32, column: &NewColumn) -> Result<Column, AllocError>
+    ensures { IfOk result (λ made. made ≡ column_for key column.now) }
+{
+    Ok(Column {
+        key: ColKey(key),
+        name: column.name.duplicate(alloc)?,
+        kind: column.kind,
+        unit: column.unit.duplicate(alloc)?,
+        options: without_repeats(alloc, column.options.as_slice())?,
+        other: None,
+    })
+}
+
+// Columns of which the one of a name has another one.
+fn columns_with_name(
+    alloc: Global,
+    columns: &[Column],
+    name: &str,
+    to: &str,
+) -> Result<Columns, AllocError>
+    ensures { IfOk result (λ new. new ≡ map (if_named name.now (column_with_name to.now)) columns.now) }
+{
+    let mut new = Items::new(alloc);
+    for column in columns {
+        new.push(renamed(alloc, column, name, to)?)?;
+    }
+    Ok(new)
+}
+
+// A column, with another name if it is the one of this name.
+fn renamed(alloc: Global, column: &Column, name: &str, to: &str) -> Result<Column, AllocError>
+    ensures { IfOk result (λ new. new ≡ if_named name.now (column_with_name to.now) column.now) }
+{
+    let mut new = column.duplicate(alloc)?;
+    if column.name.as_str() == name {
+        new.name = Text::copy_of(alloc, to)?;
+    }
+    Ok(new)
+}
+
+// Columns of which the one of a name has more options.
+fn columns_with_options(
+    alloc: Global,
+    columns: &[Column],
+    name: &str,
+    options: &Texts,
+) -> Result<Columns, AllocError>
+    ensures { IfOk result (λ new. new ≡ map (if_named name.now (column_with_options options.now)) columns.now) }
+{
+    let mut new = Items::new(alloc);
+    for column in columns {
+        new.push(extended(alloc, column, name, options)?)?;
+    }
+    Ok(new)
+}
+
+// A column, with more options if it is the one of this name.
+fn extended(
+    alloc: Global,
+    column: &Column,
+    name: &str,
+    options: &Texts,
+) -> Result<Column, AllocError>
+    ensures { IfOk result (λ new. new ≡ if_named name.now (column_with_options options.now) column.now) }
+{
+    let mut new = column.duplicate(alloc)?;
+    if column.name.as_str() == name {
+        new.options = more_options(alloc, &column.options, options)?;
+    }
+    Ok(new)
+}
+
+/// Options with more of them at the end, each once, at its first place.
+pub fn more_options(alloc: Global, options: &Texts, more: &Texts) -> Result<Texts, AllocError>
+    ensures { IfOk result (λ all. all ≡ once (options.now ++ more.now)) }
+{
+    let mut all = options.duplicate(alloc)?;
+    all.append(more.duplicate(alloc)?)?;
+    without_repeats(alloc, all.as_slice())
+}
+
+// Columns without the one of a name.
+fn columns_without(alloc: Global, columns: &[Column], name: &str) -> Result<Columns, AllocError>
+    ensures { IfOk result (λ kept. kept ≡ filter (has_other_name_of name.now) columns.now) }
+{
+    let mut kept = Items::new(alloc);
+    for column in columns {
+        if has_other_name(column, name) {
+            kept.push(column.duplicate(alloc)?)?;
+        }
+    }
+    Ok(kept)
+}
+
+// The column has another name.
+fn has_other_name(column: &Column, name: &str) -> bool
+    ensures { result ≡ has_other_name_of name.now column.now }
+{
+    column.name.as_str() != name
+}
+
+// Views without their filters of a column.
+fn views_without(alloc: Global, views: &[View], column: Option<ColKey>) -> Result<Views, AllocError>
+    ensures { IfOk result (λ new. new ≡ map (without_filters column) views.now) }
+{
+    let mut new = Items::new(alloc);
+    for view in views {
+        new.push(view_without(alloc, view, column)?)?;
+    }
+    Ok(new)
+}
+
+// A view without its filters of a column.
+fn view_without(alloc: Global, view: &View, column: Option<ColKey>) -> Result<View, AllocError>
+    ensures { IfOk result (λ new. new ≡ without_filters column view.now) }
+{
+    Ok(View {
+        name: view.name.duplicate(alloc)?,
+        all: view.all,
+        filters: filters_without(alloc, view.filters.as_slice(), column)?,
+    })
+}
+
+// The filters of other columns.
+fn filters_without(
+    alloc: Global,
+    filters: &[Filter],
+    column: Option<ColKey>,
+) -> Result<Filters, AllocError>
+    ensures { IfOk result (λ kept. kept ≡ filter (is_of_other_of column) filters.now) }
+{
+    let mut kept = Items::new(alloc);
+    for filter in filters {
+        if is_of_other(filter, column) {
+            kept.push(filter.duplicate(alloc)?)?;
+        }
+    }
+    Ok(kept)
+}
+
+// The filter is of another column.
+fn is_of_other(filter: &Filter, column: Option<ColKey>) -> bool
+    ensures { result ≡ is_of_other_of column filter.now }
+{
+    match column {
+        Some(key) => filter.column.0 != key.0,
+        None => true,
+    }
+}
+
+// Views with this one.
+fn views_with(alloc: Global, views: &Views, view: &View) -> Result<Views, AllocError>
+    ensures { IfOk result (λ new. new ≡ put_view view.now views.now) }
+{
+    if has_view(views.as_slice(), view.name.as_str()) {
+        return views_replaced(alloc, views.as_slice(), view);
+    }
+    let mut new = views.duplicate(alloc)?;
+    new.push(view.duplicate(alloc)?)?;
+    Ok(new)
+}
+
+// There is a view of this name.
+fn has_view(views: &[View], name: &str) -> bool
+    ensures { result ≡ list_any (is_view_of name.now) views.now }
+{
+    views.iter().any(|view| is_view(view, name))
+}
+
+// The view has this name.
+fn is_view(view: &View, name: &str) -> bool
+    ensures { result ≡ is_view_of name.now view.now }
+{
+    view.name.as_str() == name
+}
+
+// Views with this one in the place of the one of its name.
+fn views_replaced(alloc: Global, views: &[View], view: &View) -> Result<Views, AllocError>
+    ensures { IfOk result (λ new. new ≡ map (if_view view.now) views.now) }
+{
+    let mut new = Items::new(alloc);
+    for one in views {
+        new.push(replaced(alloc, one, view)?)?;
+    }
+    Ok(new)
+}
+
+// A view, or this one if it has its name.
+fn replaced(alloc: Global, view: &View, new: &View) -> Result<View, AllocError>
+    ensures { IfOk result (λ one. one ≡ if_view new.now view.now) }
+{
+    if is_view(view, new.name.as_str()) {
+        return new.duplicate(alloc);
+    }
+    view.duplicate(alloc)
+}
+
+// The views of other names.
+fn other_views(alloc: Global, views: &[View], name: &str) -> Result<Views, AllocError>
+    ensures { IfOk result (λ kept. kept ≡ filter (is_other_view_of name.now) views.now) }
+{
+    let mut kept = Items::new(alloc);
+    for view in views {
+        if is_other_view(view, name) {
+            kept.push(view.duplicate(alloc)?)?;
+        }
+    }
+    Ok(kept)
+}
+
+// The view has another name.
+fn is_other_view(view: &View, name: &str) -> bool
+    ensures { result ≡ is_other_view_of name.now view.now }
+{
+    view.name.as_str() != name
+}
