@@ -6,7 +6,6 @@ use Rattle.sea_cell.specs.declared.keys.Moment.{Moment}
 use Rattle.sea_plain.specs.declared.base.Plain.{Plain}
 use Rattle.sea_plain.specs.declared.operation.Entry.{Entry}
 use Rattle.sea_plain.specs.declared.operation.Op.{Op}
-use Rattle.sea_plain.specs.declared.operation.Op.TheVariants.{InsertTable, AppendRows}
 use Rattle.sea_plain.specs.declared.refusal.OpRefusal.{OpRefusal}
 use Rattle.sea_plain.specs.Base.{empty_base}
 use Rattle.sea_plain.specs.Apply.{applied, apply, unless_refused, after_result, after_from}
@@ -18,9 +17,7 @@ use Rattle.sea_core.specs.Taking.{TakesRecord}
 -- ---- an entry that a base takes
 
 applied-version : (base : Plain) (moment : Moment) (op : Op) → (applied base moment op).version ≡ base.version + 1
-applied-version base moment (InsertTable table columns) = refl
-applied-version base moment (AppendRows table rows) = refl
-applied-version base moment _ = refl
+applied-version base moment op = refl
 
 -- what isn't refused is the new base
 not_refused : (refusal : Option OpRefusal) (base next : Plain) → unless_refused refusal base ≡ Ok next → base ≡ next

@@ -8,9 +8,12 @@ use Rattle.sea_cell.specs.Conversion.{json_of}
 use Rattle.sea_cell.specs.declared.keys.RowId.{RowId}
 use Rattle.sea_cell.specs.declared.values.CellValue.{CellValue}
 use Rattle.sea_cell.specs.declared.values.CellValue.TheVariants as cell
+use Rattle.sea_plain.specs.declared.refusal.OpRefusal.{OpRefusal}
+use Rattle.sea_plain.specs.declared.refusal.OpRefusal.TheVariants as op
+use Rattle.sea_drive.specs.Refused.{refusal_json}
 use Rattle.sea_drive.specs.Reply.{row_json, outcome_json, outcome_line}
 use Rattle.sea_drive.specs.declared.outcome.LineOutcome.{LineOutcome}
-use Rattle.sea_drive.specs.declared.outcome.LineOutcome.TheVariants.{Silent, Version, Reopened, Rows, NoTable, NumbersSpent, BaseFailed, LogFull, DiskFault, NotABase, BadLine, NotYet}
+use Rattle.sea_drive.specs.declared.outcome.LineOutcome.TheVariants.{Silent, Version, Reopened, Rows, Refusal, BaseFailed, LogFull, DiskFault, NotABase, BadLine, NotYet}
 
 texts_float : (texts : List (List ℕ)) → items_have_float (items_of (map string texts)) ≡ false
 texts_float [] = refl
@@ -43,13 +46,29 @@ rows_float : (rows : List (List CellValue)) → items_have_float (items_of (map 
 rows_float [] = refl
 rows_float (row ∷ rows) = rw (cells_float row) (rows_float rows)
 
+refusal_float : (refusal : OpRefusal) → has_float (refusal_json refusal) ≡ false
+refusal_float op.Memory = refl
+refusal_float op.BadOperation = refl
+refusal_float op.NotBuilt = refl
+refusal_float (op.NumbersSpent _) = refl
+refusal_float (op.NoTable _) = refl
+refusal_float (op.NoColumn _) = refl
+refusal_float (op.NoRow _) = refl
+refusal_float (op.BadName _) = refl
+refusal_float (op.NameTaken _) = refl
+refusal_float (op.BadCell _ _) = refl
+refusal_float (op.DuplicateRow _) = refl
+refusal_float (op.TooMany _) = refl
+refusal_float (op.RowTooBig _) = refl
+refusal_float (op.NotSelect _) = refl
+refusal_float (op.FirstColumn _) = refl
+
 pub outcome_float : (outcome : LineOutcome) → has_float (outcome_json outcome) ≡ false
 outcome_float Silent = refl
 outcome_float (Version _) = refl
 outcome_float (Rows answer) = rw (texts_float answer.columns, rows_float answer.rows) refl
-outcome_float (NoTable _) = refl
+outcome_float (Refusal refusal) = refusal_float refusal
 outcome_float (Reopened _) = refl
-outcome_float (NumbersSpent _) = refl
 outcome_float (BaseFailed _) = refl
 outcome_float (LogFull _) = refl
 outcome_float DiskFault = refl
@@ -62,9 +81,8 @@ pub line-shown : (outcome : LineOutcome) → outcome ≢ Silent → outcome_line
 line-shown Silent h = absurd (h refl)
 line-shown (Version _) h = refl
 line-shown (Rows _) h = refl
-line-shown (NoTable _) h = refl
+line-shown (Refusal _) h = refl
 line-shown (Reopened _) h = refl
-line-shown (NumbersSpent _) h = refl
 line-shown (BaseFailed _) h = refl
 line-shown (LogFull _) h = refl
 line-shown DiskFault h = refl

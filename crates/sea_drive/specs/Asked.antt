@@ -16,11 +16,15 @@ later_words =
 abbrev pub is_silent : List ℕ → Bool
 is_silent text = (length text == 0) || (slice_index text 0 == 35)
 
--- by its first word; `reopen` stands alone
+-- what a word asks for that has something behind it, be it one space
+abbrev pub with_rest : Verb → List ℕ → List ℕ → Verb
+with_rest verb word text = if bytes_eq word text then Unknown else verb
+
+-- by its first word; `op` and `sql` have something behind them, and `reopen` stands alone
 abbrev pub verb_of : List ℕ → List ℕ → Verb
 verb_of word text =
-    if bytes_eq (codes "op") word then Edit
-    else (if bytes_eq (codes "sql") word then Select
+    if bytes_eq (codes "op") word then with_rest Edit word text
+    else (if bytes_eq (codes "sql") word then with_rest Select word text
     else (if bytes_eq (codes "reopen") text then Reopen
     else (if list_any (bytes_eq word) later_words then Later else Unknown)))
 

@@ -3,6 +3,7 @@ pub mod Lines
 pub mod Outcome
 pub mod Play
 pub mod Reader
+pub mod Refused
 pub mod Reply
 pub mod Select
 pub mod Status

@@ -1,7 +1,7 @@
 -- What comes of a line.
 use Rattle.std.specs.Prelude.{ℕ, List, Bool, true, false, Option, Some, None, Result, Ok, Err, codes}
 use Rattle.sea_cell.specs.declared.keys.Moment.{Moment}
-use Rattle.sea_plain.specs.Base.{table_named}
+use Rattle.sea_plain.specs.Base.{plain_named}
 use Rattle.sea_plain.specs.declared.base.Plain.{Plain}
 use Rattle.sea_plain.specs.declared.base.PlainTable.{PlainTable}
 use Rattle.sea_plain.specs.declared.operation.Entry.{Entry}
@@ -13,18 +13,17 @@ use Rattle.sea_core.specs.declared.fault.CoreFault.TheVariants as edit_fault
 use Rattle.sea_core.specs.declared.fault.StartFault.{StartFault}
 use Rattle.sea_core.specs.declared.fault.StartFault.TheVariants as start
 use Rattle.sea_drive.specs.declared.outcome.LineOutcome.{LineOutcome}
-use Rattle.sea_drive.specs.declared.outcome.LineOutcome.TheVariants.{Version, Rows, NoTable, NumbersSpent, BaseFailed, LogFull, DiskFault, NotABase, NotYet}
+use Rattle.sea_drive.specs.declared.outcome.LineOutcome.TheVariants.{Version, Rows, Refusal, BaseFailed, LogFull, DiskFault, NotABase, NotYet}
 use Rattle.sea_drive.specs.Select.{answer_of}
 
 -- the entry of an operation that is made now, by the user of scripts
 abbrev pub entry_of : Moment → Op → Entry
 entry_of moment op = record { op = op; moment = moment; user = codes "play" }
 
--- what is shown of a refusal of an operation: most refusals aren't yet
+-- what comes of a refusal of an operation
 abbrev pub refusal_outcome : OpRefusal → LineOutcome
-refusal_outcome (refusal.NumbersSpent counter) = NumbersSpent counter
-refusal_outcome (refusal.NoTable name) = NoTable name
-refusal_outcome _ = NotYet
+refusal_outcome refusal.NotBuilt = NotYet
+refusal_outcome other = Refusal other
 
 -- what comes of an edit, where None is want of memory
 abbrev pub edit_outcome : Result ℕ CoreFault → Option LineOutcome
@@ -43,13 +42,13 @@ start_outcome start.NotABase = Some NotABase
 
 -- the answer of a table, if there is one
 abbrev pub table_outcome : List ℕ → Option PlainTable → LineOutcome
-table_outcome name None = NoTable name
+table_outcome name None = Refusal (refusal.NoTable name)
 table_outcome name (Some table) = Rows (answer_of table)
 
 -- what comes of a select
 abbrev pub select_outcome : Plain → Option (List ℕ) → LineOutcome
 select_outcome base None = NotYet
-select_outcome base (Some name) = table_outcome name (table_named base.tables name)
+select_outcome base (Some name) = table_outcome name (plain_named base.tables name)
 
 -- the result is a fault of the disk
 abbrev pub is_disk_fault : Option LineOutcome → Bool

@@ -6,9 +6,8 @@ use Rattle.serde_json.specs.Written.{compact_text}
 use Rattle.sea_cell.specs.Conversion.{json_of}
 use Rattle.sea_cell.specs.declared.values.CellValue.{CellValue}
 use Rattle.sea_drive.specs.declared.outcome.LineOutcome.{LineOutcome}
-use Rattle.sea_drive.specs.declared.outcome.LineOutcome.TheVariants.{Silent, Version, Reopened, Rows, NoTable, NumbersSpent, BaseFailed, LogFull, DiskFault, NotABase, BadLine, NotYet}
-use Rattle.sea_plain.specs.declared.refusal.Counter.{Counter}
-use Rattle.sea_plain.specs.declared.refusal.Counter.TheVariants as counter
+use Rattle.sea_drive.specs.declared.outcome.LineOutcome.TheVariants.{Silent, Version, Reopened, Rows, Refusal, BaseFailed, LogFull, DiskFault, NotABase, BadLine, NotYet}
+use Rattle.sea_drive.specs.Refused.{error_json, refusal_json}
 
 -- an array of texts
 abbrev pub texts_json : List (List ℕ) → Data
@@ -22,22 +21,9 @@ row_json cells = array (items_of (map json_of cells))
 abbrev pub rows_json : List (List CellValue) → Data
 rows_json rows = array (items_of (map row_json rows))
 
--- an object that names an error
-abbrev pub error_json : List ℕ → Data
-error_json error = object (member (codes "error") (string error) no_members)
-
 -- an object with one number
 abbrev pub number_json : List ℕ → ℕ → Data
 number_json name value = object (member name (number (unsigned value)) no_members)
-
--- the word for a number that has a last value
-abbrev pub counter_word : Counter → List ℕ
-counter_word counter.Version = codes "version"
-counter_word counter.NextRow = codes "next_row"
-counter_word counter.NextTable = codes "next_table"
-counter_word counter.NextColumn = codes "next_column"
-counter_word counter.NextLink = codes "next_link"
-counter_word counter.Lsn = codes "lsn"
 
 -- what is shown of an outcome
 abbrev pub outcome_json : LineOutcome → Data
@@ -46,8 +32,7 @@ outcome_json (Version version) = number_json (codes "version") version
 outcome_json (Reopened version) = number_json (codes "reopened") version
 outcome_json (Rows answer) =
     object (member (codes "columns") (texts_json answer.columns) (member (codes "rows") (rows_json answer.rows) no_members))
-outcome_json (NoTable name) = object (member (codes "error") (string (codes "NoTable")) (member (codes "name") (string name) no_members))
-outcome_json (NumbersSpent name) = object (member (codes "counter") (string (counter_word name)) (member (codes "error") (string (codes "NumbersSpent")) no_members))
+outcome_json (Refusal refusal) = refusal_json refusal
 outcome_json (BaseFailed count) = object (member (codes "count") (number (unsigned count)) (member (codes "error") (string (codes "BaseFailed")) no_members))
 outcome_json (LogFull size) = object (member (codes "error") (string (codes "LogFull")) (member (codes "size") (number (unsigned size)) no_members))
 outcome_json DiskFault = error_json (codes "DiskFault")

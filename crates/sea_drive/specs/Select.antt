@@ -1,12 +1,8 @@
 -- The one form of a select that is built, and its answer.
-use Rattle.std.specs.Prelude.{ℕ, ◌&&◌, ◌||◌, ◌==◌, List, [], ◌∷◌, length, map, take, slice_index, Bool, not, nat_lt, nat_le, if◌then◌else◌, Option, Some, None, unwrap_or, option_and_then, codes}
+use Rattle.std.specs.Prelude.{ℕ, ◌&&◌, ◌||◌, ◌==◌, List, [], ◌∷◌, length, map, take, slice_index, Bool, not, nat_lt, nat_le, if◌then◌else◌, Option, Some, None, option_and_then, codes}
 use Rattle.std.specs.List.{list_all, list_any}
 use Rattle.std.specs.Str.{str_eq_ignore_ascii_case}
-use Rattle.sea_cell.specs.Cells.{cell_under}
-use Rattle.sea_cell.specs.declared.layout.Column.{Column}
-use Rattle.sea_cell.specs.declared.values.CellValue.{CellValue}
-use Rattle.sea_cell.specs.declared.values.CellValue.TheVariants.{Empty}
-use Rattle.sea_cell.specs.declared.cellular.Row.{Row}
+use Rattle.sea_cell.specs.Cells.{cell_in}
 use Rattle.sea_plain.specs.declared.base.PlainTable.{PlainTable}
 use Rattle.sea_drive.specs.declared.outcome.Answer.{Answer}
 use Rattle.sea_drive.specs.Texts.{stripped}
@@ -44,13 +40,9 @@ table_word name = if is_table_word name then Some name else None
 abbrev pub select_of : List ℕ → Option (List ℕ)
 select_of text = option_and_then table_word (stripped (codes "SELECT * FROM ") text)
 
--- the cell of a row under a column
-abbrev pub cell_in : Row → Column → CellValue
-cell_in row column = unwrap_or (cell_under row.cells column.key) Empty
-
 -- the columns' names, and the cells of the first 100 rows in the order of the columns
 abbrev pub answer_of : PlainTable → Answer
-answer_of table = record {
-  columns = map (λ column. column.name) table.columns;
-  rows = map (λ row. map (cell_in row) table.columns) (take 100 table.rows);
+answer_of plain = record {
+  columns = map (λ column. column.name) plain.table.columns;
+  rows = map (λ row. map (cell_in row) plain.table.columns) (take 100 plain.rows);
 }

@@ -2,7 +2,7 @@
 ghost use Rattle.std.specs.Prelude.{◌≡◌, ◌==◌};
 ghost use Rattle.std.specs.List.{list_any, before_first, after_first};
 ghost use Rattle.std.specs.Str.{bytes_eq};
-ghost use Rattle.sea_drive.specs.Asked.{asked_by as asked_of, is_silent as is_silent_of, later_words, verb_of as verb_in};
+ghost use Rattle.sea_drive.specs.Asked.{asked_by as asked_of, is_silent as is_silent_of, later_words, verb_of as verb_in, with_rest as with_rest_of};
 
 /// What a line asks for.
 #[derive(Clone, Copy)]
@@ -79,10 +79,10 @@ fn verb_of(word: &str, text: &str) -> Verb
     ensures { result ≡ verb_in word.now text.now }
 {
     if "op" == word {
-        return Verb::Edit;
+        return with_rest(Verb::Edit, word, text);
     }
     if "sql" == word {
-        return Verb::Select;
+        return with_rest(Verb::Select, word, text);
     }
     if "reopen" == text {
         return Verb::Reopen;
@@ -91,6 +91,16 @@ fn verb_of(word: &str, text: &str) -> Verb
         return Verb::Later;
     }
     Verb::Unknown
+}
+
+// What a word asks for that has something behind it, be it one space.
+fn with_rest(verb: Verb, word: &str, text: &str) -> Verb
+    ensures { result ≡ with_rest_of verb word.now text.now }
+{
+    if word == text {
+        return Verb::Unknown;
+    }
+    verb
 }
 
 fn is_later(word: &str) -> bool

@@ -12,6 +12,7 @@ mod lines;
 mod outcome;
 mod player;
 mod playing;
+mod refused;
 mod reply;
 mod select;
 mod texts;

@@ -1,6 +1,6 @@
 // What comes of a line.
-use sea_cell::{CellValue, Text, Texts};
-use sea_plain::Counter;
+use sea_cell::{CellValue, Texts};
+use sea_plain::OpRefusal;
 use sqlite_items::Items;
 
 /// A row of an answer: its cells in the order of the answer's columns.
@@ -27,10 +27,8 @@ pub enum LineOutcome {
     Reopened(u64),
     /// The answer of a select.
     Rows(Answer),
-    /// There is no table of this name.
-    NoTable(Text),
-    /// The operation would raise this number above its last value.
-    NumbersSpent(Counter),
+    /// The base refuses the operation, or a select names no table.
+    Refusal(OpRefusal),
     /// The disk failed in an earlier write, and so many of its calls had failed then. The base takes no operation until
     /// it is reopened.
     BaseFailed(u64),
@@ -42,6 +40,6 @@ pub enum LineOutcome {
     NotABase,
     /// The line is no UTF-8, or has no form.
     BadLine,
-    /// The line has a form, or the operation a refusal, that isn't built yet.
+    /// The line has a form that isn't built yet, or its operation is one that isn't.
     NotYet,
 }

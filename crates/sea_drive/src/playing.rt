@@ -18,7 +18,7 @@ use sea_core::{Core, CoreFault, one_base_at_most};
 use sea_disk::Disk;
 use sea_edge::Clock;
 use sea_ops::{OpFault, op_of_json};
-use sea_plain::{Entry, OpRefusal, Plain, table_named};
+use sea_plain::{Entry, OpRefusal, Plain, is_built, plain_named};
 use std::alloc::{AllocError, Global};
 
 /// Plays a line on a core.
@@ -81,8 +81,13 @@ fn play_edit<D: Disk, C: Clock>(
     let op = match op_of_json(alloc, text.as_bytes()) {
         Ok(op) => op,
         Err(OpFault::Memory) => return None,
-        Err(OpFault::BadOperation) => return Some(LineOutcome::NotYet),
+        Err(OpFault::BadOperation) => {
+            return Some(LineOutcome::Refusal(OpRefusal::BadOperation));
+        }
     };
+    if !is_built(&op) {
+        return Some(LineOutcome::NotYet);
+    }
     let moment = now(clock);
     let Ok(user) = Text::copy_of(alloc, "play") else {
         return None;
@@ -125,14 +130,13 @@ fn edit_outcome(answer: Result<u64, CoreFault>) -> Option<LineOutcome>
     }
 }
 
-// What is shown of a refusal of an operation.
+// What comes of a refusal of an operation.
 fn refusal_outcome(refusal: OpRefusal) -> LineOutcome
     ensures { result ≡ refusal_outcome_of refusal }
 {
     match refusal {
-        OpRefusal::NumbersSpent { counter } => LineOutcome::NumbersSpent(counter),
-        OpRefusal::NoTable { name } => LineOutcome::NoTable(name),
-        _ => LineOutcome::NotYet,
+        OpRefusal::NotBuilt => LineOutcome::NotYet,
+        refusal => LineOutcome::Refusal(refusal),
     }
 }
 
@@ -155,9 +159,11 @@ fn select(alloc: Global, base: &Plain, text: &str) -> Result<LineOutcome, AllocE
     let Some(name) = table_of_select(text) else {
         return Ok(LineOutcome::NotYet);
     };
-    match table_named(base.tables.as_slice(), name) {
-        Some(table) => Ok(LineOutcome::Rows(answer_of(alloc, table)?)),
-        None => Ok(LineOutcome::NoTable(Text::copy_of(alloc, name)?)),
+    match plain_named(base.tables.as_slice(), name) {
+        Some(plain) => Ok(LineOutcome::Rows(answer_of(alloc, plain)?)),
+        None => Ok(LineOutcome::Refusal(OpRefusal::NoTable {
+            name: Text::copy_of(alloc, name)?,
+        })),
     }
 }
 

@@ -3,11 +3,11 @@ ghost use Rattle.std.specs.Prelude.{◌≡◌, IfOk, Some, None, map};
 ghost use Rattle.sea_cell.specs.Conversion.{json_of};
 ghost use Rattle.serde_json.specs.Data.{string};
 ghost use Rattle.serde_json.specs.View.{view};
-ghost use Rattle.sea_drive.specs.Reply.{texts_json as texts_json_of, row_json as row_json_of, rows_json as rows_json_of, outcome_json as outcome_json_of, counter_word as counter_word_of, error_json as error_json_of, outcome_line, reply_line};
+ghost use Rattle.sea_drive.specs.Reply.{texts_json as texts_json_of, row_json as row_json_of, rows_json as rows_json_of, outcome_json as outcome_json_of, outcome_line, reply_line};
 
 use crate::outcome::{Answer, AnswerRow, LineOutcome};
+use crate::refused::{error_json, refusal_json};
 use sea_cell::{CellValue, Text, json_of_cell};
-use sea_plain::Counter;
 use serde_json::{Value, json};
 use std::alloc::{AllocError, Global};
 
@@ -41,8 +41,7 @@ fn outcome_json(alloc: Global, outcome: &LineOutcome) -> Result<Value, AllocErro
         LineOutcome::Version(version) => version_json(alloc, *version),
         LineOutcome::Reopened(version) => reopened_json(alloc, *version),
         LineOutcome::Rows(answer) => answer_json(alloc, answer),
-        LineOutcome::NoTable(name) => no_table_json(alloc, name.as_str()),
-        LineOutcome::NumbersSpent(counter) => spent_json(alloc, *counter),
+        LineOutcome::Refusal(refusal) => refusal_json(alloc, refusal),
         LineOutcome::BaseFailed(count) => failed_json(alloc, *count),
         LineOutcome::LogFull(size) => full_json(alloc, *size),
         LineOutcome::DiskFault => error_json(alloc, "DiskFault"),
@@ -72,19 +71,6 @@ fn answer_json(alloc: Global, answer: &Answer) -> Result<Value, AllocError>
     json!(in alloc; {"columns": columns, "rows": rows})
 }
 
-fn no_table_json(alloc: Global, name: &str) -> Result<Value, AllocError>
-    ensures { IfOk result (λ json. view json ≡ outcome_json_of (LineOutcome.NoTable name.now)) }
-{
-    json!(in alloc; {"error": "NoTable", "name": name})
-}
-
-fn spent_json(alloc: Global, counter: Counter) -> Result<Value, AllocError>
-    ensures { IfOk result (λ json. view json ≡ outcome_json_of (LineOutcome.NumbersSpent counter)) }
-{
-    let word = counter_word(counter);
-    json!(in alloc; {"counter": word, "error": "NumbersSpent"})
-}
-
 fn failed_json(alloc: Global, count: u64) -> Result<Value, AllocError>
     ensures { IfOk result (λ json. view json ≡ outcome_json_of (LineOutcome.BaseFailed count)) }
 {
@@ -95,27 +81,6 @@ fn full_json(alloc: Global, size: u64) -> Result<Value, AllocError>
     ensures { IfOk result (λ json. view json ≡ outcome_json_of (LineOutcome.LogFull size)) }
 {
     json!(in alloc; {"error": "LogFull", "size": size})
-}
-
-// An object that names an error.
-fn error_json(alloc: Global, error: &str) -> Result<Value, AllocError>
-    ensures { IfOk result (λ json. view json ≡ error_json_of error.now) }
-{
-    json!(in alloc; {"error": error})
-}
-
-// The word for a number that has a last value.
-fn counter_word(counter: Counter) -> &'static str
-    ensures { result.now ≡ counter_word_of counter }
-{
-    match counter {
-        Counter::Version => "version",
-        Counter::NextRow => "next_row",
-        Counter::NextTable => "next_table",
-        Counter::NextColumn => "next_column",
-        Counter::NextLink => "next_link",
-        Counter::Lsn => "lsn",
-    }
 }
 
 // An array of texts.

@@ -2,11 +2,12 @@
 ghost use Rattle.std.specs.Prelude.{◌≡◌, map, take, option_map, IfOk};
 ghost use Rattle.std.specs.List.{list_all, list_any};
 ghost use Rattle.std.specs.Str.{str_eq_ignore_ascii_case};
-ghost use Rattle.sea_drive.specs.Select.{select_of, is_keyword as is_keyword_of, is_digit as is_digit_of, is_word_byte as is_word_byte_of, is_table_word as is_table_word_of, answer_of as answer_for, cell_in as cell_for};
+ghost use Rattle.sea_cell.specs.Cells.{cell_in as cell_in_row};
+ghost use Rattle.sea_drive.specs.Select.{select_of, is_keyword as is_keyword_of, is_digit as is_digit_of, is_word_byte as is_word_byte_of, is_table_word as is_table_word_of, answer_of as answer_for};
 
 use crate::outcome::{Answer, AnswerRow, AnswerRows};
 use crate::texts::stripped;
-use sea_cell::{CellValue, Column, Duplicate, Row, Shared, Texts};
+use sea_cell::{Column, Duplicate, Row, Shared, Texts, cell_in};
 use sea_plain::PlainTable;
 use sqlite_items::Items;
 use std::alloc::{AllocError, Global};
@@ -80,11 +81,11 @@ fn same_word(one: &str, other: &str) -> bool
 }
 
 /// The columns' names of a table, and the cells of its first 100 rows.
-pub fn answer_of(alloc: Global, table: &PlainTable) -> Result<Answer, AllocError>
-    ensures { IfOk result (λ answer. answer ≡ answer_for table.now) }
+pub fn answer_of(alloc: Global, plain: &PlainTable) -> Result<Answer, AllocError>
+    ensures { IfOk result (λ answer. answer ≡ answer_for plain.now) }
 {
-    let columns = table.columns.as_slice();
-    let rows = front_of(table.rows.as_slice(), 100);
+    let columns = plain.table.get().columns.as_slice();
+    let rows = front_of(plain.rows.get().as_slice(), 100);
     Ok(Answer {
         columns: names_of(alloc, columns)?,
         rows: cells_of_rows(alloc, columns, rows)?,
@@ -116,7 +117,7 @@ fn cells_of_rows(
     columns: &[Column],
     rows: &[Shared<Row>],
 ) -> Result<AnswerRows, AllocError>
-    ensures { IfOk result (λ all. all ≡ map (λ row. map (cell_for row) columns.now) rows.now) }
+    ensures { IfOk result (λ all. all ≡ map (λ row. map (cell_in_row row) columns.now) rows.now) }
 {
     let mut all = Items::new(alloc);
     for row in rows {
@@ -126,21 +127,11 @@ fn cells_of_rows(
 }
 
 fn cells_of_row(alloc: Global, columns: &[Column], row: &Row) -> Result<AnswerRow, AllocError>
-    ensures { IfOk result (λ cells. cells ≡ map (cell_for row.now) columns.now) }
+    ensures { IfOk result (λ cells. cells ≡ map (cell_in_row row.now) columns.now) }
 {
     let mut cells = Items::new(alloc);
     for column in columns {
         cells.push(cell_in(alloc, row, column)?)?;
     }
     Ok(cells)
-}
-
-// The cell of a row under a column.
-fn cell_in(alloc: Global, row: &Row, column: &Column) -> Result<CellValue, AllocError>
-    ensures { IfOk result (λ value. value ≡ cell_for row.now column.now) }
-{
-    match row.cells.get(column.key) {
-        Some(value) => Ok(value.duplicate(alloc)?),
-        None => Ok(CellValue::Empty),
-    }
 }

@@ -1,3 +1,4 @@
+pub mod Besides
 pub mod OperationsLaws
 pub mod TextsLaws
 pub mod TextsRead

@@ -1,3 +1,4 @@
+pub mod Beside
 pub mod Operations
 pub mod Texts
 pub mod Record

@@ -4,6 +4,7 @@
 //! crates above is that of `op_of_json`: which operation a text is, or that it is none.
 #![tactic(auto)]
 
+mod checking;
 mod columns;
 mod fault;
 mod laws;
@@ -16,6 +17,7 @@ mod tests;
 mod views;
 mod writing;
 
+pub use checking::{RowsSeen, check};
 pub use fault::OpFault;
 pub use laws::{records_have_one_entry, texts_are_forms};
 pub use reading::op_of_json;

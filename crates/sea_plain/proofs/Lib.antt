@@ -1,1 +1,4 @@
+pub mod Alike
+pub mod Numbers
 pub mod Repeats
+pub mod Tables

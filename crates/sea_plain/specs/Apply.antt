@@ -1,42 +1,62 @@
 -- What an accepted operation makes of a plain base.
-use Rattle.std.specs.Prelude.{ℕ, ◌+◌, List, [], ◌∷◌, ◌++◌, length, map, if◌then◌else◌, Option, Some, None, Result, Ok, Err}
+use Rattle.std.specs.Prelude.{ℕ, ◌+◌, List, [], ◌∷◌, ◌++◌, length, map, filter, Bool, not, if◌then◌else◌, Option, Some, None, Result, Ok, Err}
 use Rattle.std.specs.Str.{bytes_eq}
+use Rattle.sea_cell.specs.declared.cellular.Row.{Row}
 use Rattle.sea_cell.specs.declared.keys.Moment.{Moment}
-use Rattle.sea_cell.specs.declared.layout.NewColumn.{NewColumn}
+use Rattle.sea_schema.specs.Tables.{key_named, table_of, with_name, with_column, with_column_name, with_options, without_column}
+use Rattle.sea_schema.specs.declared.table.Table.{Table}
 use Rattle.sea_plain.specs.declared.base.Plain.{Plain}
 use Rattle.sea_plain.specs.declared.base.PlainTable.{PlainTable}
 use Rattle.sea_plain.specs.declared.operation.Op.{Op}
-use Rattle.sea_plain.specs.declared.operation.Op.TheVariants.{InsertTable, AppendRows}
-use Rattle.sea_plain.specs.declared.operation.OpRow.{OpRow}
+use Rattle.sea_plain.specs.declared.operation.Op.TheVariants.{InsertTable, RenameTable, DeleteTable, InsertColumn, RenameColumn, DeleteColumn, AddOptions, AppendRows, ModifyRows, DeleteRows}
 use Rattle.sea_plain.specs.declared.operation.Entry.{Entry}
 use Rattle.sea_plain.specs.declared.refusal.OpRefusal.{OpRefusal}
-use Rattle.sea_plain.specs.RowsOf.{rows_of, columns_of}
+use Rattle.sea_plain.specs.Makes.{table_name, columns_made, tables_made, rows_made}
+use Rattle.sea_plain.specs.RowsOf.{rows_of, after_changes, without_cell, has_other_id}
 use Rattle.sea_plain.specs.Refusal.{refusal_of}
 
--- a new table, without views and rows
-abbrev pub table_of : ℕ → ℕ → List ℕ → List NewColumn → PlainTable
-table_of number key name columns = record { no = record { 0 = number }; name = name; columns = columns_of key columns; views = []; rows = [] }
+-- the operation's table without its rows, where new columns get their keys from this one on
+abbrev pub table_after : ℕ → Op → Table → Table
+table_after key (RenameTable _ to) table = with_name to table
+table_after key (InsertColumn _ column) table = with_column key column table
+table_after key (RenameColumn _ column to) table = with_column_name column to table
+table_after key (DeleteColumn _ column) table = without_column column table
+table_after key (AddOptions _ column options) table = with_options column options table
+table_after key _ table = table
 
--- a table with new rows at its end, if it is the one of that name
-abbrev pub appended : Moment → ℕ → List ℕ → List OpRow → PlainTable → PlainTable
-appended moment number name rows table =
-    if bytes_eq table.name name then record table { rows = table.rows ++ rows_of table.columns moment number rows } else table
+-- the rows of the operation's table, where new rows get their numbers from this one on
+abbrev pub rows_after : Moment → ℕ → Op → Table → List Row → List Row
+rows_after moment number (DeleteColumn _ column) table rows = map (without_cell (key_named table.columns column)) rows
+rows_after moment number (AppendRows _ new) table rows = rows ++ rows_of table.columns moment number new
+rows_after moment number (ModifyRows _ changes) table rows = map (after_changes table.columns moment changes) rows
+rows_after moment number (DeleteRows _ ids) table rows = filter (has_other_id (map (λ id. id.0) ids)) rows
+rows_after moment number _ table rows = rows
 
--- The base after an accepted operation. The version rises by one, the next numbers by what the operation makes. What
--- isn't built is never accepted.
+-- a table, after the operation if it is the one that the operation names
+abbrev pub plain_after : Plain → Moment → Op → PlainTable → PlainTable
+plain_after base moment op plain =
+    if bytes_eq plain.table.name (table_name op)
+    then record { table = table_after base.next_column op plain.table; rows = rows_after moment base.next_row op plain.table plain.rows }
+    else plain
+
+-- a table of another name
+abbrev pub has_other_name : List ℕ → PlainTable → Bool
+has_other_name name plain = not (bytes_eq plain.table.name name)
+
+abbrev pub tables_after : Plain → Moment → Op → List PlainTable
+tables_after base moment (InsertTable name columns) = base.tables ++ record { table = table_of base.next_table base.next_column name columns; rows = [] } ∷ []
+tables_after base moment (DeleteTable name) = filter (has_other_name name) base.tables
+tables_after base moment op = map (plain_after base moment op) base.tables
+
+-- The base after an accepted operation. The version rises by one, the next numbers by what the operation makes.
 abbrev pub applied : Plain → Moment → Op → Plain
-applied base moment (InsertTable table columns) = record base {
+applied base moment op = record base {
   version = base.version + 1;
-  next_table = base.next_table + 1;
-  next_column = base.next_column + length columns;
-  tables = base.tables ++ table_of base.next_table base.next_column table columns ∷ [];
+  next_row = base.next_row + rows_made op;
+  next_table = base.next_table + tables_made op;
+  next_column = base.next_column + length (columns_made op);
+  tables = tables_after base moment op;
 }
-applied base moment (AppendRows table rows) = record base {
-  version = base.version + 1;
-  next_row = base.next_row + length rows;
-  tables = map (appended moment base.next_row table rows) base.tables;
-}
-applied base moment _ = record base { version = base.version + 1 }
 
 -- the new base, unless there is a refusal
 abbrev pub unless_refused : Option OpRefusal → Plain → Result Plain OpRefusal

@@ -1,6 +1,9 @@
 pub mod Apply
 pub mod Base
 pub mod Checks
+pub mod Makes
 pub mod Names
 pub mod Refusal
 pub mod RowsOf
+pub mod Schemas
+pub mod Seen

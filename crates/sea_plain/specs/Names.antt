@@ -19,7 +19,11 @@ is_id_byte byte = (nat_le 65 byte && nat_le byte 90) || ((nat_le 97 byte && nat_
 abbrev pub is_id : List ℕ → Bool
 is_id id = nat_lt 0 (length id) && (nat_le (length id) 22 && list_all is_id_byte id)
 
--- the first text that stands among those before it
-abbrev pub first_repeat : List (List ℕ) → List (List ℕ) → Option (List ℕ)
-first_repeat before [] = None
-first_repeat before (text ∷ texts) = if is_among before text then Some text else first_repeat (before ++ text ∷ []) texts
+-- an option that a column may have: 1 to 64 bytes
+abbrev pub is_option : List ℕ → Bool
+is_option option = nat_lt 0 (length option) && nat_le (length option) 64
+
+-- the first text that is in use or stands among those before it
+abbrev pub first_repeat : (List ℕ → Bool) → List (List ℕ) → List (List ℕ) → Option (List ℕ)
+first_repeat used before [] = None
+first_repeat used before (text ∷ texts) = if used text || is_among before text then Some text else first_repeat used (before ++ text ∷ []) texts

@@ -1,10 +1,13 @@
 -- Why a base refuses an operation: the first refusal that holds, in one order, with its first place in the operation.
 -- Places go by the operation's text with the members of each object in byte order, so an insert_table's columns
--- stand before its table.
-use Rattle.std.specs.Prelude.{ℕ, ◌+◌, ◌^◌, List, [], ◌∷◌, length, map, nat_lt, Bool, true, false, is_some, if◌then◌else◌, Option, Some, None, option_map, option_and_then, Result, Ok, Err}
-use Rattle.std.specs.List.{list_all}
+-- stand before its table, and a column's name before its options.
+use Rattle.std.specs.Prelude.{ℕ, ◌+◌, ◌^◌, ◌&&◌, List, [], ◌∷◌, ◌++◌, length, map, nat_lt, pos, Bool, true, false, not, is_some, if◌then◌else◌, Option, Some, None, option_map, option_and_then, Result, Ok, Err}
+use Rattle.std.specs.List.{find}
 use Rattle.std.specs.Option.{option_map_or}
+use Rattle.std.specs.Str.{bytes_eq}
 use Rattle.sea_cell.specs.Conversion.{cell_of}
+use Rattle.sea_cell.specs.Kinds.{has_options}
+use Rattle.sea_cell.specs.Once.{once}
 use Rattle.sea_cell.specs.Sizes.{row_bytes_of}
 use Rattle.sea_cell.specs.declared.keys.Moment.{Moment}
 use Rattle.sea_cell.specs.declared.layout.ColKind.{ColKind}
@@ -14,18 +17,21 @@ use Rattle.sea_cell.specs.declared.layout.NewColumn.{NewColumn}
 use Rattle.sea_cell.specs.declared.values.CellValue.{CellValue}
 use Rattle.sea_cell.specs.declared.conversion.CellFault.{CellFault}
 use Rattle.sea_cell.specs.declared.cellular.Row.{Row}
+use Rattle.sea_schema.specs.Tables.{table_named, column_named}
 use Rattle.sea_plain.specs.declared.base.Plain.{Plain}
 use Rattle.sea_plain.specs.declared.operation.NamedCell.{NamedCell}
-use Rattle.sea_plain.specs.declared.operation.OpRow.{OpRow}
+use Rattle.sea_plain.specs.declared.operation.RowChange.{RowChange}
 use Rattle.sea_plain.specs.declared.operation.Op.{Op}
-use Rattle.sea_plain.specs.declared.operation.Op.TheVariants.{InsertTable, AppendRows}
+use Rattle.sea_plain.specs.declared.operation.Op.TheVariants.{InsertTable, RenameTable, InsertColumn, RenameColumn, DeleteColumn, AddOptions, AppendRows, ModifyRows, AddLink, RemoveLink, InsertView, ModifyView, DeleteView}
 use Rattle.sea_plain.specs.declared.refusal.Counter.{Counter}
 use Rattle.sea_plain.specs.declared.refusal.Counter.TheVariants as counter
 use Rattle.sea_plain.specs.declared.refusal.OpRefusal.{OpRefusal}
 use Rattle.sea_plain.specs.declared.refusal.OpRefusal.TheVariants as refusal
-use Rattle.sea_plain.specs.Base.{table_named, column_named}
-use Rattle.sea_plain.specs.Names.{is_name, is_id, first_repeat}
-use Rattle.sea_plain.specs.RowsOf.{ids_of, rows_of}
+use Rattle.sea_plain.specs.Base.{plain_named}
+use Rattle.sea_plain.specs.Makes.{table_name, ids_named, cells_written, columns_made, tables_made, rows_made}
+use Rattle.sea_plain.specs.Names.{is_name, is_id, is_option, first_repeat}
+use Rattle.sea_plain.specs.RowsOf.{ids_of, rows_of, changed_row}
+use Rattle.sea_plain.specs.Seen.{Seen, seen_of, columns_in, has_id}
 
 -- the first of two
 abbrev pub or_else : {X : Type 0} → Option X → Option X → Option X
@@ -37,58 +43,80 @@ abbrev pub first_at : {X Y : Type 0} → (X → Option Y) → List X → Option 
 first_at f [] = None
 first_at f (x ∷ xs) = or_else (f x) (first_at f xs)
 
--- the type text
-abbrev pub is_text_kind : ColKind → Bool
-is_text_kind kind.Text = true
-is_text_kind _ = false
+-- ---- what isn't built yet
 
--- a text column, which is the one kind that a table may be made with so far
-abbrev pub is_plain : NewColumn → Bool
-is_plain column = is_text_kind column.kind
+-- a link column
+abbrev pub is_link : ColKind → Bool
+is_link kind.Link = true
+is_link _ = false
 
--- the operations that no base takes yet
+-- Operations on links and on views are taken by no base yet.
+abbrev pub is_built : Op → Bool
+is_built (InsertColumn _ column) = not (is_link column.kind)
+is_built (AddLink _ _ _ _) = false
+is_built (RemoveLink _ _ _ _) = false
+is_built (InsertView _ _) = false
+is_built (ModifyView _ _) = false
+is_built (DeleteView _ _) = false
+is_built _ = true
+
 abbrev pub not_built : Op → Option OpRefusal
-not_built (InsertTable table columns) = if list_all is_plain columns then None else Some refusal.NotBuilt
-not_built (AppendRows table rows) = None
-not_built _ = Some refusal.NotBuilt
+not_built op = if is_built op then None else Some refusal.NotBuilt
+
+-- ---- NumbersSpent
 
 -- a counter that would rise above its last value
 abbrev pub spent : Counter → ℕ → ℕ → ℕ → Option OpRefusal
-spent name value more last = if nat_lt last (value + more) then Some (refusal.NumbersSpent name) else None
-
--- the next numbers of the rows, tables and columns that an operation makes
-abbrev pub next_numbers_spent : Plain → Op → Option OpRefusal
-next_numbers_spent base (InsertTable table columns) =
-    or_else (spent counter.NextTable base.next_table 1 4294967295)
-    (spent counter.NextColumn base.next_column (length columns) 4294967295)
-next_numbers_spent base (AppendRows table rows) = spent counter.NextRow base.next_row (length rows) (2 ^ 62)
-next_numbers_spent base _ = None
+spent name value more last = if nat_lt 0 more && nat_lt last (value + more) then Some (refusal.NumbersSpent name) else None
 
 -- each operation raises the version by one, and the next numbers by what it makes
-abbrev pub numbers_spent : Plain → Op → Option OpRefusal
-numbers_spent base op = or_else (spent counter.Version base.version 1 (2 ^ 62)) (next_numbers_spent base op)
+abbrev pub numbers_spent : Seen → Op → Option OpRefusal
+numbers_spent seen op =
+    or_else (spent counter.Version seen.counters.version 1 (2 ^ 62))
+    (or_else (spent counter.NextRow seen.counters.row (rows_made op) (2 ^ 62))
+    (or_else (spent counter.NextTable seen.counters.table (tables_made op) 4294967295)
+    (spent counter.NextColumn seen.counters.column (length (columns_made op)) 4294967295)))
 
--- the columns of the operation's table, if the base has it
-abbrev pub columns_in : Plain → List ℕ → List Column
-columns_in base table = option_map_or (λ found. found.columns) (table_named base.tables table) []
+-- ---- NoTable
 
-abbrev pub no_table : Plain → Op → Option OpRefusal
-no_table base (InsertTable table columns) = None
-no_table base (AppendRows table rows) = if is_some (table_named base.tables table) then None else Some (refusal.NoTable table)
-no_table base _ = None
+-- a table that isn't there
+abbrev pub missing_table : Seen → List ℕ → Option OpRefusal
+missing_table seen name = if is_some (table_named seen.tables name) then None else Some (refusal.NoTable name)
+
+abbrev pub no_table : Seen → Op → Option OpRefusal
+no_table seen (InsertTable _ _) = None
+no_table seen op = missing_table seen (table_name op)
+
+-- ---- NoColumn
+
+-- a column that isn't there
+abbrev pub missing_column : List Column → List ℕ → Option OpRefusal
+missing_column columns name = if is_some (column_named columns name) then None else Some (refusal.NoColumn name)
 
 -- a member that names no column
-abbrev pub missing_column : List Column → NamedCell → Option OpRefusal
-missing_column columns member = if is_some (column_named columns member.name) then None else Some (refusal.NoColumn member.name)
+abbrev pub missing_member : List Column → NamedCell → Option OpRefusal
+missing_member columns cell = missing_column columns cell.name
 
 -- the first such member of some rows
-unfoldable pub missing_in : List Column → List OpRow → Option OpRefusal
-missing_in columns rows = first_at (λ row. first_at (missing_column columns) row.cells) rows
+unfoldable pub missing_in : List Column → List (List NamedCell) → Option OpRefusal
+missing_in columns rows = first_at (λ cells. first_at (missing_member columns) cells) rows
 
-abbrev pub no_column : Plain → Op → Option OpRefusal
-no_column base (InsertTable table columns) = None
-no_column base (AppendRows table rows) = missing_in (columns_in base table) rows
-no_column base _ = None
+abbrev pub no_column : Seen → Op → Option OpRefusal
+no_column seen (RenameColumn table column _) = missing_column (columns_in seen table) column
+no_column seen (DeleteColumn table column) = missing_column (columns_in seen table) column
+no_column seen (AddOptions table column _) = missing_column (columns_in seen table) column
+no_column seen op = missing_in (columns_in seen (table_name op)) (cells_written op)
+
+-- ---- NoRow
+
+-- a row that isn't there
+abbrev pub missing_row : Seen → List ℕ → List ℕ → Option OpRefusal
+missing_row seen table id = if has_id seen table id then None else Some (refusal.NoRow id)
+
+abbrev pub no_row : Seen → Op → Option OpRefusal
+no_row seen op = first_at (missing_row seen (table_name op)) (ids_named op)
+
+-- ---- BadName
 
 -- a text that is no name
 abbrev pub bad_text : List ℕ → Option OpRefusal
@@ -98,17 +126,46 @@ bad_text name = if is_name name then None else Some (refusal.BadName name)
 abbrev pub bad_id : List ℕ → Option OpRefusal
 bad_id id = if is_id id then None else Some (refusal.BadName id)
 
+-- a text that is no option
+abbrev pub bad_option : List ℕ → Option OpRefusal
+bad_option option = if is_option option then None else Some (refusal.BadName option)
+
+-- a new column's name, and then its options
+abbrev pub bad_column : NewColumn → Option OpRefusal
+bad_column column = or_else (bad_text column.name) (first_at bad_option column.options)
+
 abbrev pub bad_name : Op → Option OpRefusal
-bad_name (InsertTable table columns) = or_else (first_at (λ column. bad_text column.name) columns) (bad_text table)
-bad_name (AppendRows table rows) = first_at (λ row. option_and_then bad_id row.id) rows
+bad_name (InsertTable table columns) = or_else (first_at bad_column columns) (bad_text table)
+bad_name (RenameTable _ to) = bad_text to
+bad_name (InsertColumn _ column) = bad_column column
+bad_name (RenameColumn _ _ to) = bad_text to
+bad_name (AddOptions _ _ options) = first_at bad_option options
+bad_name (AppendRows _ rows) = first_at (λ row. option_and_then bad_id row.id) rows
 bad_name _ = None
 
-abbrev pub name_taken : Plain → Op → Option OpRefusal
-name_taken base (InsertTable table columns) =
-    or_else (option_map refusal.NameTaken (first_repeat [] (map (λ column. column.name) columns)))
-    (if is_some (table_named base.tables table) then Some (refusal.NameTaken table) else None)
-name_taken base (AppendRows table rows) = None
-name_taken base _ = None
+-- ---- NameTaken
+
+-- the name of a table that is there
+abbrev pub taken_table : Seen → List ℕ → Option OpRefusal
+taken_table seen name = if is_some (table_named seen.tables name) then Some (refusal.NameTaken name) else None
+
+-- the name of a column that is there
+abbrev pub taken_column : List Column → List ℕ → Option OpRefusal
+taken_column columns name = if is_some (column_named columns name) then Some (refusal.NameTaken name) else None
+
+-- nothing is in use but what the operation itself has
+abbrev pub unused : List ℕ → Bool
+unused text = false
+
+-- a thing's own name counts as in use
+abbrev pub name_taken : Seen → Op → Option OpRefusal
+name_taken seen (InsertTable table columns) = or_else (option_map refusal.NameTaken (first_repeat unused [] (map (λ column. column.name) columns))) (taken_table seen table)
+name_taken seen (RenameTable _ to) = taken_table seen to
+name_taken seen (InsertColumn table column) = taken_column (columns_in seen table) column.name
+name_taken seen (RenameColumn table _ to) = taken_column (columns_in seen table) to
+name_taken seen _ = None
+
+-- ---- BadCell
 
 -- a cell that its column doesn't take
 abbrev pub refused_value : List ℕ → Result CellValue CellFault → Option OpRefusal
@@ -116,56 +173,102 @@ refused_value name (Ok _) = None
 refused_value name (Err fault) = Some (refusal.BadCell name fault)
 
 abbrev pub refused_cell : List Column → NamedCell → Option OpRefusal
-refused_cell columns member = option_and_then (λ column. refused_value member.name (cell_of column member.word)) (column_named columns member.name)
+refused_cell columns cell = option_and_then (λ column. refused_value cell.name (cell_of column cell.word)) (column_named columns cell.name)
 
 -- the first such cell of some rows
-unfoldable pub refused_in : List Column → List OpRow → Option OpRefusal
-refused_in columns rows = first_at (λ row. first_at (refused_cell columns) row.cells) rows
+unfoldable pub refused_in : List Column → List (List NamedCell) → Option OpRefusal
+refused_in columns rows = first_at (λ cells. first_at (refused_cell columns) cells) rows
 
-abbrev pub bad_cell : Plain → Op → Option OpRefusal
-bad_cell base (InsertTable table columns) = None
-bad_cell base (AppendRows table rows) = refused_in (columns_in base table) rows
-bad_cell base _ = None
+abbrev pub bad_cell : Seen → Op → Option OpRefusal
+bad_cell seen op = refused_in (columns_in seen (table_name op)) (cells_written op)
 
--- the ids of the operation's table
-abbrev pub ids_in : Plain → List ℕ → List (List ℕ)
-ids_in base table = option_map_or (λ found. map (λ row. row.id.0) found.rows) (table_named base.tables table) []
+-- ---- DuplicateRow
 
 -- ids that are given out count as well as given ones
-abbrev pub duplicate_row : Plain → Op → Option OpRefusal
-duplicate_row base (InsertTable table columns) = None
-duplicate_row base (AppendRows table rows) = option_map refusal.DuplicateRow (first_repeat (ids_in base table) (ids_of base.next_row rows))
-duplicate_row base _ = None
+abbrev pub duplicate_row : Seen → Op → Option OpRefusal
+duplicate_row seen (AppendRows table rows) = option_map refusal.DuplicateRow (first_repeat (has_id seen table) [] (ids_of seen.counters.row rows))
+duplicate_row seen op = option_map refusal.DuplicateRow (first_repeat unused [] (ids_named op))
+
+-- ---- TooMany
 
 -- more than a limit allows
 abbrev pub above_limit : ℕ → ℕ → Option OpRefusal
 above_limit limit count = if nat_lt limit count then Some (refusal.TooMany limit) else None
 
--- 1,000 rows of an operation, 64 tables of a base, 200 columns of a table
-abbrev pub too_many : Plain → Op → Option OpRefusal
-too_many base (InsertTable table columns) = or_else (above_limit 64 (length base.tables + 1)) (above_limit 200 (length columns))
-too_many base (AppendRows table rows) = above_limit 1000 (length rows)
-too_many base _ = None
+-- 500 options of a column, each of which counts once
+abbrev pub many_options : List (List ℕ) → Option OpRefusal
+many_options options = above_limit 500 (length (once options))
+
+-- the options of the column of a name
+abbrev pub options_in : List Column → List ℕ → List (List ℕ)
+options_in columns name = option_map_or (λ column. column.options) (column_named columns name) []
+
+-- 1,000 rows or ids of an operation, 64 tables of a base, 200 columns of a table
+abbrev pub too_many : Seen → Op → Option OpRefusal
+too_many seen (InsertTable _ columns) = or_else (above_limit 64 (length seen.tables + 1)) (or_else (above_limit 200 (length columns)) (first_at (λ column. many_options column.options) columns))
+too_many seen (InsertColumn table column) = or_else (above_limit 200 (length (columns_in seen table) + 1)) (many_options column.options)
+too_many seen (AddOptions table column options) = many_options (options_in (columns_in seen table) column ++ options)
+too_many seen (AppendRows _ rows) = above_limit 1000 (length rows)
+too_many seen op = above_limit 1000 (length (ids_named op))
+
+-- ---- RowTooBig
 
 -- a row whose encoding is too long, or that has none
 abbrev pub large_row : Row → Option OpRefusal
 large_row row = if nat_lt 8192 (row_bytes_of row) then Some (refusal.RowTooBig (row_bytes_of row)) else None
 
-abbrev pub row_too_big : Plain → Moment → Op → Option OpRefusal
-row_too_big base moment (InsertTable table columns) = None
-row_too_big base moment (AppendRows table rows) = first_at large_row (rows_of (columns_in base table) moment base.next_row rows)
-row_too_big base moment _ = None
+-- Each moment of the range takes the same bytes, so new rows are weighed as if they were made at the first of 1970.
+abbrev pub some_moment : Moment
+some_moment = record { 0 = pos 0 }
 
--- the first refusal, in the order of the list in docs/formats.md
-abbrev pub refusal_of : Plain → Moment → Op → Option OpRefusal
-refusal_of base moment op =
+abbrev pub large_new_row : Seen → Op → Option OpRefusal
+large_new_row seen (AppendRows table rows) = first_at large_row (rows_of (columns_in seen table) some_moment seen.counters.row rows)
+large_new_row seen _ = None
+
+-- ---- NotSelect and FirstColumn
+
+-- a column whose cells are no options
+abbrev pub not_select : Seen → Op → Option OpRefusal
+not_select seen (AddOptions table column _) = option_and_then (λ found. if has_options found.kind then None else Some (refusal.NotSelect column)) (column_named (columns_in seen table) column)
+not_select seen _ = None
+
+-- the first column has the name
+abbrev pub is_first : List Column → List ℕ → Bool
+is_first [] name = false
+is_first (column ∷ _) name = bytes_eq column.name name
+
+abbrev pub first_column : Seen → Op → Option OpRefusal
+first_column seen (DeleteColumn table column) = if is_first (columns_in seen table) column then Some (refusal.FirstColumn column) else None
+first_column seen _ = None
+
+-- ---- all of them
+
+-- The first refusal that follows from what is seen of a base, in the order of the list in docs/formats.md. Changed rows
+-- aside it is the first of all.
+abbrev pub seen_refusal : Seen → Op → Option OpRefusal
+seen_refusal seen op =
     or_else (not_built op)
-    (or_else (numbers_spent base op)
-    (or_else (no_table base op)
-    (or_else (no_column base op)
+    (or_else (numbers_spent seen op)
+    (or_else (no_table seen op)
+    (or_else (no_column seen op)
+    (or_else (no_row seen op)
     (or_else (bad_name op)
-    (or_else (name_taken base op)
-    (or_else (bad_cell base op)
-    (or_else (duplicate_row base op)
-    (or_else (too_many base op)
-    (row_too_big base moment op)))))))))
+    (or_else (name_taken seen op)
+    (or_else (bad_cell seen op)
+    (or_else (duplicate_row seen op)
+    (or_else (too_many seen op)
+    (or_else (large_new_row seen op)
+    (or_else (not_select seen op)
+    (first_column seen op))))))))))))
+
+-- a changed row that is too big
+abbrev pub large_change : List Row → List Column → Moment → RowChange → Option OpRefusal
+large_change rows columns moment change = option_and_then (λ row. large_row (changed_row columns moment change row)) (find (λ row. bytes_eq row.id.0 change.id.0) rows)
+
+abbrev pub large_changed_row : Plain → Moment → Op → Option OpRefusal
+large_changed_row base moment (ModifyRows table changes) = option_and_then (λ plain. first_at (large_change plain.rows plain.table.columns moment) changes) (plain_named base.tables table)
+large_changed_row base moment _ = None
+
+-- The first refusal. An operation that changes rows can have none that stands behind a row that is too big.
+abbrev pub refusal_of : Plain → Moment → Op → Option OpRefusal
+refusal_of base moment op = or_else (seen_refusal (seen_of base) op) (large_changed_row base moment op)

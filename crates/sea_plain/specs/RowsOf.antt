@@ -1,18 +1,22 @@
--- The rows and columns that an operation makes.
-use Rattle.std.specs.Prelude.{ℕ, ◌+◌, List, [], ◌∷◌, fold, decimal, Option, Some, None, Result, Ok, Err, unwrap_or}
+-- The rows that an operation makes, changes and takes away.
+use Rattle.std.specs.Prelude.{ℕ, ◌+◌, List, [], ◌∷◌, fold, decimal, Bool, not, Option, Some, None, Result, Ok, Err, unwrap_or}
+use Rattle.std.specs.List.{find}
+use Rattle.std.specs.Str.{bytes_eq}
 use Rattle.sea_cell.specs.Cells.{with_cell}
 use Rattle.sea_cell.specs.Conversion.{cell_of}
+use Rattle.sea_cell.specs.Once.{is_among}
 use Rattle.sea_cell.specs.declared.keys.ColKey.{ColKey}
 use Rattle.sea_cell.specs.declared.keys.Moment.{Moment}
 use Rattle.sea_cell.specs.declared.layout.Column.{Column}
-use Rattle.sea_cell.specs.declared.layout.NewColumn.{NewColumn}
 use Rattle.sea_cell.specs.declared.values.CellValue.{CellValue}
+use Rattle.sea_cell.specs.declared.values.CellValue.TheVariants.{Empty}
 use Rattle.sea_cell.specs.declared.conversion.CellFault.{CellFault}
 use Rattle.sea_cell.specs.declared.cellular.Cell.{Cell}
 use Rattle.sea_cell.specs.declared.cellular.Row.{Row}
+use Rattle.sea_schema.specs.Tables.{column_named}
 use Rattle.sea_plain.specs.declared.operation.NamedCell.{NamedCell}
 use Rattle.sea_plain.specs.declared.operation.OpRow.{OpRow}
-use Rattle.sea_plain.specs.Base.{column_named}
+use Rattle.sea_plain.specs.declared.operation.RowChange.{RowChange}
 
 -- the id of a new row: the one that is given, or `r` and the row's number in decimal
 abbrev pub id_of : ℕ → OpRow → List ℕ
@@ -48,11 +52,28 @@ abbrev pub rows_of : List Column → Moment → ℕ → List OpRow → List Row
 rows_of columns moment number [] = []
 rows_of columns moment number (row ∷ rows) = row_of columns moment number row ∷ rows_of columns moment (number + 1) rows
 
--- a new column; a link column's other side isn't built yet
-abbrev pub column_of : ℕ → NewColumn → Column
-column_of key column = record { key = record { 0 = key }; name = column.name; kind = column.kind; unit = column.unit; options = column.options; other = None }
+-- the change of a row: given cells are replaced, and it was last changed when the operation was made
+abbrev pub changed_row : List Column → Moment → RowChange → Row → Row
+changed_row columns moment change row = record row { changed = moment; cells = fold (with_member columns) row.cells change.cells }
 
--- new columns whose keys are given from here
-abbrev pub columns_of : ℕ → List NewColumn → List Column
-columns_of key [] = []
-columns_of key (column ∷ columns) = column_of key column ∷ columns_of (key + 1) columns
+-- a change that is there
+abbrev pub with_change : List Column → Moment → Option RowChange → Row → Row
+with_change columns moment None row = row
+with_change columns moment (Some change) row = changed_row columns moment change row
+
+-- the change of the row of an id
+abbrev pub change_of : List RowChange → List ℕ → Option RowChange
+change_of changes id = find (λ change. bytes_eq change.id.0 id) changes
+
+-- a row after an operation's changes of rows: as it was, unless one of them is its own
+abbrev pub after_changes : List Column → Moment → List RowChange → Row → Row
+after_changes columns moment changes row = with_change columns moment (change_of changes row.id.0) row
+
+-- a row without its cell under a key
+abbrev pub without_cell : Option ColKey → Row → Row
+without_cell None row = row
+without_cell (Some key) row = record row { cells = with_cell row.cells key Empty }
+
+-- another row than those of some ids
+abbrev pub has_other_id : List (List ℕ) → Row → Bool
+has_other_id ids row = not (is_among ids row.id.0)

@@ -1,15 +1,20 @@
 // What an accepted operation makes of a base, and the slow calls that apply entries.
-ghost use Rattle.std.specs.Prelude.{◌≡◌, ◌≢◌, ◌+◌, ◌^◌, ◌<◌, None, Ok, Err, map, length, IfOk, MatchResult};
+ghost use Rattle.std.specs.Prelude.{◌≡◌, ◌≢◌, ◌≤◌, ◌⊎◌, ◌+◌, ◌++◌, ◌^◌, ◌<◌, None, Ok, Err, map, filter, length, IfOk, MatchResult, []};
+ghost use Rattle.sea_schema.specs.Tables.{table_of};
 ghost use Rattle.sea_cell.specs.Answers.{Answers};
-ghost use Rattle.sea_plain.specs.Apply.{applied as applied_to, appended as appended_to, apply, after, table_of as table_for};
+ghost use Rattle.sea_plain.specs.Apply.{applied as applied_to, apply, after, table_after as table_after_of, rows_after as rows_after_of, plain_after as plain_after_of, has_other_name as has_other_name_of, tables_after as tables_after_of};
 ghost use Rattle.sea_plain.specs.Refusal.{numbers_spent};
+ghost use Rattle.sea_plain.specs.Seen.{seen_of};
 
 use crate::base::{Plain, PlainTable, PlainTables};
-use crate::check::check;
-use crate::made::{columns_of, rows_of};
-use crate::operation::{Entries, Entry, Op, OpRow};
+use crate::changed::{rows_after_changes, rows_without, rows_without_column};
+use crate::checking::{changes_fit, check};
+use crate::made::rows_of;
+use crate::makes::{columns_made, rows_made, table_name, tables_made};
+use crate::operation::{Entries, Entry, Op};
 use crate::refusal::OpRefusal;
-use sea_cell::{Duplicate, Moment, NewColumn, Rows, TableNo, Text};
+use sea_cell::{ColKey, Duplicate, Moment, NewColumn, Rows, Shared, TableNo};
+use sea_schema::Table;
 use sqlite_items::Items;
 use std::alloc::{AllocError, Global};
 
@@ -17,7 +22,8 @@ use std::alloc::{AllocError, Global};
 pub fn apply_plain(alloc: Global, base: &Plain, entry: &Entry) -> Result<Plain, OpRefusal>
     ensures { Answers OpRefusal.Memory result (apply base.now entry.now) }
 {
-    check(alloc, base, entry.moment, &entry.op)?;
+    check(alloc, &entry.op, base)?;
+    changes_fit(alloc, base, entry.moment, &entry.op)?;
     Ok(applied(alloc, base, entry.moment, &entry.op)?)
 }
 
@@ -44,96 +50,233 @@ pub fn run_plain(alloc: Global, base: &Plain, entries: &Entries) -> Result<Plain
 
 // The base after an operation that it accepts.
 fn applied(alloc: Global, base: &Plain, moment: Moment, op: &Op) -> Result<Plain, AllocError>
-    requires { numbers_spent base.now op.now ≡ None }
+    requires { numbers_spent (seen_of base.now) op.now ≡ None }
     ensures { IfOk result (λ new. new ≡ applied_to base.now moment op.now) }
 {
-    match op {
-        Op::InsertTable { table, columns } => {
-            let mut new = base.duplicate(alloc)?;
-            let number = new.next_table;
-            let made = table_of(alloc, number, new.next_column, table, columns.as_slice())?;
-            new.version += 1;
-            new.next_table += 1;
-            new.next_column += columns.len() as u32;
-            new.tables.push(made)?;
-            Ok(new)
-        }
-        Op::AppendRows { table, rows } => {
-            let tables = base.tables.as_slice();
-            let number = base.next_row;
-            Ok(Plain {
-                version: base.version + 1,
-                next_row: number + rows.len() as u64,
-                next_table: base.next_table,
-                next_column: base.next_column,
-                next_link: base.next_link,
-                tables: appended(alloc, tables, moment, number, table, rows.as_slice())?,
-                pairs: base.pairs.duplicate(alloc)?,
-            })
-        }
-        _ => {
-            let mut new = base.duplicate(alloc)?;
-            new.version += 1;
-            Ok(new)
-        }
-    }
-}
-
-// A new table.
-fn table_of(
-    alloc: Global,
-    number: u32,
-    key: u32,
-    name: &Text,
-    columns: &[NewColumn],
-) -> Result<PlainTable, AllocError>
-    requires { key + length columns.now < 2 ^ 32 }
-    ensures { IfOk result (λ made. made ≡ table_for number key name.now columns.now) }
-{
-    Ok(PlainTable {
-        no: TableNo(number),
-        name: name.duplicate(alloc)?,
-        columns: columns_of(alloc, key, columns)?,
-        views: Items::new(alloc),
-        rows: Items::new(alloc),
+    Ok(Plain {
+        version: base.version + 1,
+        next_row: raised(base.next_row, rows_made(op)),
+        next_table: raised_key(base.next_table, tables_made(op) as usize),
+        next_column: raised_key(base.next_column, columns_made(op).len()),
+        next_link: base.next_link,
+        tables: tables_after(alloc, base, moment, op)?,
+        pairs: base.pairs.duplicate(alloc)?,
     })
 }
 
-// The tables with new rows at the end of the one of that name.
-fn appended(
-    alloc: Global,
-    tables: &[PlainTable],
-    moment: Moment,
-    number: u64,
-    name: &Text,
-    rows: &[OpRow],
-) -> Result<PlainTables, AllocError>
-    requires { number + length rows.now < 2 ^ 64 }
-    ensures { IfOk result (λ new. new ≡ map (appended_to moment number name.now rows.now) tables.now) }
+// A number of rows that has room for more.
+fn raised(value: u64, more: u64) -> u64
+    requires { (more ≤ 0) ⊎ (value + more ≤ 2 ^ 62) }
+    ensures { result ≡ value + more }
 {
-    let mut new = Items::new(alloc);
-    for table in tables {
-        new.push(with_rows(alloc, table, moment, number, name, rows)?)?;
-    }
-    Ok(new)
+    value + more
 }
 
-// A table with new rows at its end, if it is the one of that name.
-fn with_rows(
-    alloc: Global,
-    table: &PlainTable,
-    moment: Moment,
-    number: u64,
-    name: &Text,
-    rows: &[OpRow],
-) -> Result<PlainTable, AllocError>
-    requires { number + length rows.now < 2 ^ 64 }
-    ensures { IfOk result (λ new. new ≡ appended_to moment number name.now rows.now table.now) }
+// A number of tables or columns that has room for more.
+fn raised_key(value: u32, more: usize) -> u32
+    requires { (more ≤ 0) ⊎ (value + more ≤ 4294967295) }
+    ensures { result ≡ value + more }
 {
-    let mut new = table.duplicate(alloc)?;
-    if table.name.as_str() == name.as_str() {
-        let made: Rows = rows_of(alloc, table.columns.as_slice(), moment, number, rows)?;
-        new.rows.append(made)?;
+    value + more as u32
+}
+
+// The tables after an operation.
+fn tables_after(
+    alloc: Global,
+    base: &Plain,
+    moment: Moment,
+    op: &Op,
+) -> Result<PlainTables, AllocError>
+    requires { numbers_spent (seen_of base.now) op.now ≡ None }
+    ensures { IfOk result (λ tables. tables ≡ tables_after_of base.now moment op.now) }
+{
+    match op {
+        Op::InsertTable { table, columns } => {
+            let mut tables = base.tables.duplicate(alloc)?;
+            let number = base.next_table;
+            let key = base.next_column;
+            let new = new_table(alloc, number, key, table.as_str(), columns.as_slice())?;
+            tables.push(new)?;
+            Ok(tables)
+        }
+        Op::DeleteTable { table } => {
+            tables_without(alloc, base.tables.as_slice(), table.as_str())
+        }
+        _ => changed_tables(alloc, base, moment, op),
     }
-    Ok(new)
+}
+
+// A new table, without rows.
+fn new_table(
+    alloc: Global,
+    number: u32,
+    key: u32,
+    name: &str,
+    columns: &[NewColumn],
+) -> Result<PlainTable, AllocError>
+    requires { (length columns.now ≤ 0) ⊎ (key + length columns.now ≤ 4294967295) }
+    ensures { IfOk result (λ new. new ≡ record { table = table_of number key name.now columns.now; rows = [] }) }
+{
+    let table = Table::new(alloc, TableNo(number), key, name, columns)?;
+    Ok(PlainTable {
+        table: Shared::new(alloc, table)?,
+        rows: Shared::new(alloc, Items::new(alloc))?,
+    })
+}
+
+// The tables without the one of a name.
+fn tables_without(
+    alloc: Global,
+    tables: &[PlainTable],
+    name: &str,
+) -> Result<PlainTables, AllocError>
+    ensures { IfOk result (λ kept. kept ≡ filter (has_other_name_of name.now) tables.now) }
+{
+    let mut kept = Items::new(alloc);
+    for plain in tables {
+        if has_other_name(plain, name) {
+            kept.push(plain.duplicate(alloc)?)?;
+        }
+    }
+    Ok(kept)
+}
+
+// The table has another name.
+fn has_other_name(plain: &PlainTable, name: &str) -> bool
+    ensures { result ≡ has_other_name_of name.now plain.now }
+{
+    plain.table.get().name.as_str() != name
+}
+
+// The tables, of which the one that the operation names is changed. The others are shared.
+fn changed_tables(
+    alloc: Global,
+    base: &Plain,
+    moment: Moment,
+    op: &Op,
+) -> Result<PlainTables, AllocError>
+    requires { numbers_spent (seen_of base.now) op.now ≡ None }
+    ensures { IfOk result (λ tables. tables ≡ map (plain_after_of base.now moment op.now) base.now.tables) }
+{
+    let mut tables = Items::new(alloc);
+    for plain in base.tables.as_slice() {
+        tables.push(plain_after(alloc, base, moment, op, plain)?)?;
+    }
+    Ok(tables)
+}
+
+// A table, after the operation if it is the one that the operation names.
+fn plain_after(
+    alloc: Global,
+    base: &Plain,
+    moment: Moment,
+    op: &Op,
+    plain: &PlainTable,
+) -> Result<PlainTable, AllocError>
+    requires { numbers_spent (seen_of base.now) op.now ≡ None }
+    ensures { IfOk result (λ new. new ≡ plain_after_of base.now moment op.now plain.now) }
+{
+    if plain.table.get().name.as_str() != table_name(op).as_str() {
+        return Ok(plain.duplicate(alloc)?);
+    }
+    Ok(PlainTable {
+        table: table_after(alloc, base.next_column, op, &plain.table)?,
+        rows: rows_after(alloc, base, moment, op, plain)?,
+    })
+}
+
+// The operation's table without its rows.
+fn table_after(
+    alloc: Global,
+    key: u32,
+    op: &Op,
+    table: &Shared<Table>,
+) -> Result<Shared<Table>, AllocError>
+    ensures { IfOk result (λ new. new ≡ table_after_of key op.now table.now) }
+{
+    let old = table.get();
+    match op {
+        Op::RenameTable { table: _, to } => share(alloc, old.with_name(alloc, to.as_str())?),
+        Op::InsertColumn { table: _, column } => {
+            share(alloc, old.with_column(alloc, ColKey(key), column)?)
+        }
+        Op::RenameColumn {
+            table: _,
+            column,
+            to,
+        } => share(
+            alloc,
+            old.with_column_name(alloc, column.as_str(), to.as_str())?,
+        ),
+        Op::DeleteColumn { table: _, column } => {
+            share(alloc, old.without_column(alloc, column.as_str())?)
+        }
+        Op::AddOptions {
+            table: _,
+            column,
+            options,
+        } => share(alloc, old.with_options(alloc, column.as_str(), options)?),
+        _ => table.duplicate(alloc),
+    }
+}
+
+// A value with its first owner.
+fn share<T: Drop>(alloc: Global, value: T) -> Result<Shared<T>, AllocError>
+    ensures { IfOk result (λ it. it ≡ value) }
+{
+    Shared::new(alloc, value)
+}
+
+// The rows of the operation's table.
+fn rows_after(
+    alloc: Global,
+    base: &Plain,
+    moment: Moment,
+    op: &Op,
+    plain: &PlainTable,
+) -> Result<Shared<Rows>, AllocError>
+    requires { numbers_spent (seen_of base.now) op.now ≡ None }
+    ensures { IfOk result (λ new. new ≡ rows_after_of moment base.now.next_row op.now plain.now.table plain.now.rows) }
+{
+    let columns = plain.table.get().columns.as_slice();
+    let rows = plain.rows.get();
+    match op {
+        Op::DeleteColumn { table: _, column } => {
+            let table = plain.table.get();
+            share(
+                alloc,
+                rows_without_column(alloc, table, column.as_str(), rows.as_slice())?,
+            )
+        }
+        Op::AppendRows {
+            table: _,
+            rows: new,
+        } => {
+            let made = rows_of(alloc, columns, moment, base.next_row, new.as_slice())?;
+            share(alloc, rows_with(alloc, rows, made)?)
+        }
+        Op::ModifyRows {
+            table: _,
+            rows: changes,
+        } => {
+            let changes = changes.as_slice();
+            share(
+                alloc,
+                rows_after_changes(alloc, columns, moment, changes, rows.as_slice())?,
+            )
+        }
+        Op::DeleteRows { table: _, ids } => {
+            share(alloc, rows_without(alloc, ids.as_slice(), rows.as_slice())?)
+        }
+        _ => plain.rows.duplicate(alloc),
+    }
+}
+
+// Rows with more of them at the end.
+fn rows_with(alloc: Global, rows: &Rows, more: Rows) -> Result<Rows, AllocError>
+    ensures { IfOk result (λ all. all ≡ rows.now ++ more) }
+{
+    let mut all = rows.duplicate(alloc)?;
+    all.append(more)?;
+    Ok(all)
 }

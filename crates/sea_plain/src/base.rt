@@ -2,19 +2,16 @@
 ghost use Rattle.std.specs.Prelude.{◌≡◌, IfOk};
 ghost use Rattle.sea_plain.specs.Base.{empty_base};
 
-use sea_cell::{Columns, Duplicate, RowId, Rows, TableNo, Text, Views};
+use sea_cell::{Duplicate, RowId, Rows, Shared};
+use sea_schema::Table;
 use sqlite_items::Items;
 use std::alloc::{AllocError, Global};
 
-/// A table: its number, its name, its columns and views in the order in which they were added, and its rows in order
-/// of row number.
+/// A table and its rows, in order of row number. A copy shares both.
 #[derive(Drop)]
 pub struct PlainTable {
-    pub no: TableNo,
-    pub name: Text,
-    pub columns: Columns,
-    pub views: Views,
-    pub rows: Rows,
+    pub table: Shared<Table>,
+    pub rows: Shared<Rows>,
 }
 
 /// The tables of a base in order of number.
@@ -63,10 +60,7 @@ impl Plain {
 impl Duplicate for PlainTable {
     fn duplicate(&self, alloc: Global) -> Result<PlainTable, AllocError> {
         Ok(PlainTable {
-            no: self.no,
-            name: self.name.duplicate(alloc)?,
-            columns: self.columns.duplicate(alloc)?,
-            views: self.views.duplicate(alloc)?,
+            table: self.table.duplicate(alloc)?,
             rows: self.rows.duplicate(alloc)?,
         })
     }

@@ -1,39 +1,24 @@
-// The rows and columns that an operation makes.
-ghost use Rattle.std.specs.Prelude.{◌≡◌, ◌+◌, ◌≤◌, ◌^◌, ◌<◌, map, length, IfOk, OnOk};
-ghost use Rattle.sea_cell.specs.Cells.{with_cell};
-ghost use Rattle.sea_plain.specs.Refusal.{ids_in};
-ghost use Rattle.sea_plain.specs.RowsOf.{id_of as id_for, ids_of as ids_for, with_member as with_member_of, cells_of as cells_for, row_of as row_for, rows_of as rows_for, column_of as column_for, columns_of as columns_for};
+// The rows that an operation makes.
+ghost use Rattle.std.specs.Prelude.{◌≡◌, ◌+◌, ◌^◌, ◌<◌, fold, length, map, IfOk, OnOk};
+ghost use Rattle.sea_plain.specs.RowsOf.{id_of as id_for, ids_of as ids_for, with_member as with_member_of, cells_of as cells_for, row_of as row_for, rows_of as rows_for};
 
-use crate::base::Plain;
-use crate::lookup::{column_named, table_named};
+use crate::lookup::column_named;
 use crate::operation::{NamedCell, OpRow};
 use sea_cell::{
-    CellFault, Cells, ColKey, Column, Columns, Duplicate, Moment, NewColumn, Row, RowId, Rows,
-    Shared, Text, Texts, cell_of_json,
+    CellFault, Cells, Column, Duplicate, Ids, Moment, Row, RowId, Rows, Shared, Text, cell_of_json,
 };
 use sqlite_items::Items;
 use std::alloc::{AllocError, Global};
 
-/// The names of new columns.
-pub fn names_of(alloc: Global, columns: &[NewColumn]) -> Result<Texts, AllocError>
-    ensures { IfOk result (λ names. names ≡ map (λ column. column.name) columns.now) }
-{
-    let mut names = Items::new(alloc);
-    for column in columns {
-        names.push(column.name.duplicate(alloc)?)?;
-    }
-    Ok(names)
-}
-
 /// The ids of new rows that are numbered from `number`.
-pub fn ids_of(alloc: Global, number: u64, rows: &[OpRow]) -> Result<Texts, AllocError>
+pub fn ids_of(alloc: Global, number: u64, rows: &[OpRow]) -> Result<Ids, AllocError>
     requires { number + length rows.now < 2 ^ 64 }
-    ensures { IfOk result (λ ids. ids ≡ ids_for number rows.now) }
+    ensures { IfOk result (λ ids. map (λ id. id.0) ids ≡ ids_for number rows.now) }
 {
     let mut ids = Items::new(alloc);
     let mut next = number;
     for row in rows {
-        ids.push(id_of(alloc, next, row)?)?;
+        ids.push(RowId(id_of(alloc, next, row)?))?;
         next += 1;
     }
     Ok(ids)
@@ -94,10 +79,23 @@ fn cells_of(alloc: Global, columns: &[Column], members: &[NamedCell]) -> Result<
     ensures { IfOk result (λ cells. cells ≡ cells_for columns.now members.now) }
 {
     let mut cells = Cells::new(alloc);
-    for member in members {
-        put_member(alloc, columns, &mut cells, member)?;
-    }
+    put_members(alloc, columns, &mut cells, members)?;
     Ok(cells)
+}
+
+/// Puts what members make under their columns.
+pub fn put_members(
+    alloc: Global,
+    columns: &[Column],
+    cells: &mut Cells,
+    members: &[NamedCell],
+) -> Result<(), AllocError>
+    ensures { OnOk result (cells.new ≡ fold (with_member_of columns.now) cells.old members.now) }
+{
+    for member in members {
+        put_member(alloc, columns, cells, member)?;
+    }
+    Ok(())
 }
 
 // Puts what a member makes under its column.
@@ -120,32 +118,4 @@ fn put_member(
         Err(CellFault::Memory) => Err(AllocError),
         Err(_) => Ok(()),
     }
-}
-
-/// New columns whose keys are given from `key`.
-pub fn columns_of(alloc: Global, key: u32, columns: &[NewColumn]) -> Result<Columns, AllocError>
-    requires { key + length columns.now < 2 ^ 32 }
-    ensures { IfOk result (λ made. made ≡ columns_for key columns.now) }
-{
-    let mut made = Items::new(alloc);
-    let mut next = key;
-    for column in columns {
-        made.push(column_of(alloc, next, column)?)?;
-        next += 1;
-    }
-    Ok(made)
-}
-
-// A new column.
-fn column_of(alloc: Global, key: u32, column: &NewColumn) -> Result<Column, AllocError>
-    ensures { IfOk result (λ made. made ≡ column_for key column.now) }
-{
-    Ok(Column {
-        key: ColKey(key),
-        name: column.name.duplicate(alloc)?,
-        kind: column.kind,
-        unit: column.unit.duplicate(alloc)?,
-        options: column.options.duplicate(alloc)?,
-        other: None,
-    })
 }

@@ -1,13 +1,13 @@
 // Names and ids, and texts that come twice.
-ghost use Rattle.std.specs.Prelude.{◌≡◌, ◌||◌, not, map, ℕ, List, Some, None, if◌then◌else◌, IfOk, OnOk};
-ghost use Rattle.std.specs.List.{list_all, list_any};
+ghost use Rattle.std.specs.Prelude.{◌≡◌, ◌||◌, ℕ, List, [], map, IfOk, OnOk};
+ghost use Rattle.std.specs.List.{list_all};
 ghost use Rattle.std.specs.Str.{bytes_eq};
 ghost use Rattle.std.specs.BTreeSet.{contains_text};
 ghost use Rattle.sea_cell.specs.Once.{is_among};
-ghost use Rattle.sea_plain.specs.Names.{is_name as is_name_of, is_name_byte as is_name_byte_of, is_id as is_id_of, is_id_byte as is_id_byte_of, first_repeat as first_repeat_of};
+ghost use Rattle.sea_plain.specs.Names.{is_name as is_name_of, is_name_byte as is_name_byte_of, is_id as is_id_of, is_id_byte as is_id_byte_of, is_option as is_option_of, first_repeat as first_repeat_of};
 
-use sea_cell::{Duplicate, Row, Shared, Text, Texts};
-use sqlite_items::Items;
+use crate::makes::Named;
+use sea_cell::{Text, insert_text};
 use std::alloc::{AllocError, Global};
 use std::collections::BTreeSet;
 
@@ -52,110 +52,51 @@ fn is_id_byte(byte: u8) -> bool
     matches!(byte, b'A'..=b'Z' | b'a'..=b'z' | b'0'..=b'9' | b'_' | b'-')
 }
 
-/// The first text that stands among those before it, where `before` stands before all of them.
-pub fn first_repeat(
-    alloc: Global,
-    before: &[Text],
-    texts: &[Text],
-) -> Result<Option<Text>, AllocError>
-    ensures { IfOk result (λ repeat. repeat ≡ first_repeat_of before.now texts.now) }
+/// Whether a text is an option that a column may have: 1 to 64 bytes.
+pub fn is_option(option: &str) -> bool
+    ensures { result ≡ is_option_of option.now }
 {
-    let mut seen = set_of(alloc, before)?;
-    for text in texts {
-        if !add(alloc, &mut seen, text.as_str())? {
-            return Ok(Some(text.duplicate(alloc)?));
+    !option.is_empty() && option.len() <= 64
+}
+
+/// The first name that is one of those in use or stands among those before it.
+pub fn first_repeat<T: Named>(
+    alloc: Global,
+    used: &BTreeSet<String>,
+    items: &[T],
+) -> Result<Option<Text>, AllocError>
+    ensures { IfOk result (λ repeat. repeat ≡ first_repeat_of (contains_text used.now) [] (map T.name items.now)) }
+{
+    let mut seen = BTreeSet::new(alloc);
+    for item in items {
+        if is_repeat(alloc, used, &mut seen, item.name())? {
+            return Ok(Some(Text::copy_of(alloc, item.name())?));
         }
     }
     Ok(None)
 }
 
-/// The same where the ids of some rows stand before all of the texts. It lists those ids only where one of them is among
-/// the texts.
-pub fn first_repeat_after_rows(
+// A name is one of those in use or has been seen; now it has been.
+fn is_repeat(
     alloc: Global,
-    rows: &[Shared<Row>],
-    texts: &[Text],
-) -> Result<Option<Text>, AllocError>
-    ensures { IfOk result (λ repeat. repeat ≡ first_repeat_of (map (λ row. row.id.0) rows.now) texts.now) }
+    used: &BTreeSet<String>,
+    seen: &mut BTreeSet<String>,
+    name: &str,
+) -> Result<bool, AllocError>
+    ensures repeat { IfOk result (λ repeat. repeat ≡ (contains_text used.now name.now || contains_text seen.old name.now)) }
+    ensures after { OnOk result ((other : List ℕ) → contains_text seen.new other ≡ (contains_text seen.old other || bytes_eq name.now other)) }
 {
-    if let [text] = texts {
-        return repeat_of_one(alloc, rows, text);
-    }
-    if !any_has_id(rows, &set_of(alloc, texts)?) {
-        return first_repeat(alloc, &[], texts);
-    }
-    let used = ids_of_rows(alloc, rows)?;
-    first_repeat(alloc, used.as_slice(), texts)
+    let new = insert_text(alloc, seen, name)?;
+    Ok(used.contains(name) || !new)
 }
 
-// The same of one text, as in most operations: it is a repeat where it is the id of a row.
-fn repeat_of_one(
-    alloc: Global,
-    rows: &[Shared<Row>],
-    text: &Text,
-) -> Result<Option<Text>, AllocError>
-    ensures { IfOk result (λ repeat. repeat ≡ (if list_any (λ row. bytes_eq row.id.0 text.now) rows.now then Some text.now else None)) }
-{
-    if is_id_of_one(rows, text.as_str()) {
-        return Ok(Some(text.duplicate(alloc)?));
-    }
-    Ok(None)
-}
-
-// Some row has this id.
-fn is_id_of_one(rows: &[Shared<Row>], id: &str) -> bool
-    ensures { result ≡ list_any (λ row. bytes_eq row.id.0 id.now) rows.now }
-{
-    rows.iter().any(|row| is_id_of(row.get(), id))
-}
-
-// The row has this id.
-fn is_id_of(row: &Row, id: &str) -> bool
-    ensures { result ≡ bytes_eq row.now.id.0 id.now }
-{
-    row.id.0.as_str() == id
-}
-
-// Some row has an id of the set.
-fn any_has_id(rows: &[Shared<Row>], ids: &BTreeSet<String>) -> bool
-    ensures { result ≡ list_any (λ row. contains_text ids.now row.id.0) rows.now }
-{
-    rows.iter().any(|row| has_id(row.get(), ids))
-}
-
-// The row has an id of the set.
-fn has_id(row: &Row, ids: &BTreeSet<String>) -> bool
-    ensures { result ≡ contains_text ids.now row.now.id.0 }
-{
-    ids.contains(row.id.0.as_str())
-}
-
-// The ids of rows.
-fn ids_of_rows(alloc: Global, rows: &[Shared<Row>]) -> Result<Texts, AllocError>
-    ensures { IfOk result (λ ids. ids ≡ map (λ row. row.id.0) rows.now) }
-{
-    let mut ids = Items::new(alloc);
-    for row in rows {
-        ids.push(row.get().id.0.duplicate(alloc)?)?;
-    }
-    Ok(ids)
-}
-
-// The set of some texts.
-fn set_of(alloc: Global, texts: &[Text]) -> Result<BTreeSet<String>, AllocError>
-    ensures { IfOk result (λ seen. (text : List ℕ) → contains_text seen text ≡ is_among texts.now text) }
+/// The set of some names.
+pub fn set_of<T: Named>(alloc: Global, items: &[T]) -> Result<BTreeSet<String>, AllocError>
+    ensures { IfOk result (λ seen. (name : List ℕ) → contains_text seen name ≡ is_among (map T.name items.now) name) }
 {
     let mut seen = BTreeSet::new(alloc);
-    for text in texts {
-        add(alloc, &mut seen, text.as_str())?;
+    for item in items {
+        insert_text(alloc, &mut seen, item.name())?;
     }
     Ok(seen)
-}
-
-// Adds a text, and answers whether it is new.
-fn add(alloc: Global, seen: &mut BTreeSet<String>, text: &str) -> Result<bool, AllocError>
-    ensures new { IfOk result (λ new. new ≡ not (contains_text seen.old text.now)) }
-    ensures after { OnOk result ((other : List ℕ) → contains_text seen.new other ≡ (contains_text seen.old other || bytes_eq text.now other)) }
-{
-    Ok(seen.insert(String::from_str(alloc, text)?)?)
 }

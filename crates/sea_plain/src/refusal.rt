@@ -30,8 +30,10 @@ pub enum OpRefusal {
     NoTable { name: Text },
     /// The table has no column of this name.
     NoColumn { name: Text },
+    /// The table has no row of this id.
+    NoRow { id: Text },
     /// A name that is none: empty, above 64 bytes, with a control character or a backquote, or with `_` in front. Or
-    /// a row's id that isn't 1 to 22 letters, digits, `_` and `-`.
+    /// a row's id that isn't 1 to 22 letters, digits, `_` and `-`, or an option that is empty or above 64 bytes.
     BadName { name: Text },
     /// A name that is in use, or stands twice in the operation.
     NameTaken { name: Text },
@@ -41,8 +43,12 @@ pub enum OpRefusal {
     DuplicateRow { id: Text },
     /// The operation, or the base after it, passes a limit.
     TooMany { limit: u32 },
-    /// A row of the operation has an encoding above 8,192 bytes, or none, for which `bytes` is 2^64 - 1.
+    /// A row after the operation has an encoding above 8,192 bytes, or none, for which `bytes` is 2^64 - 1.
     RowTooBig { bytes: u64 },
+    /// Options are added to a column that is neither single-select nor multiple-select.
+    NotSelect { column: Text },
+    /// The first column of a table can't be taken away.
+    FirstColumn { column: Text },
 }
 
 impl From<AllocError> for OpRefusal {

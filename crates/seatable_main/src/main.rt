@@ -81,4 +81,6 @@ fn open_folder<R: Files<File = File>>(
 #[cfg(test)]
 mod kept;
 #[cfg(test)]
+mod operations;
+#[cfg(test)]
 mod tests;

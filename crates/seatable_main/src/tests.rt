@@ -88,21 +88,31 @@ fn plays_a_script_in_pieces_of_any_size(rt: HostRuntime) -> Result<(), Fail> {
 fn replies_to_each_line(rt: HostRuntime) -> Result<(), Fail> {
     let not_yet = "{\"error\":\"NotYet\"}\n";
     let bad_line = "{\"error\":\"BadLine\"}\n";
+    let bad_operation = "{\"error\":\"BadOperation\"}\n";
     let rows = [
         ("", ""),
         ("\n\r\n# a remark\n#\r\n", ""),
         ("hello", bad_line),
         ("opener x\n", bad_line),
-        ("op", not_yet),
-        ("op {\"op\":\"insert_table\"}\n", not_yet),
+        (
+            "op\nsql",
+            "{\"error\":\"BadLine\"}\n{\"error\":\"BadLine\"}\n",
+        ),
+        ("op \n", bad_operation),
+        ("op {\"op\":\"insert_table\"}\n", bad_operation),
         (
             "op {\"op\":\"insert_table\",\"table\":\"T\",\"columns\":[]}",
-            not_yet,
+            bad_operation,
         ),
         (
             "op {\"op\":\"insert_table\",\"table\":\"_T\",\"columns\":[{\"name\":\"N\",\"type\":\"text\"}]}",
+            "{\"error\":\"BadName\",\"name\":\"_T\"}\n",
+        ),
+        (
+            "op {\"op\":\"delete_view\",\"table\":\"T\",\"view\":\"All\"}",
             not_yet,
         ),
+        ("sql ", not_yet),
         (
             "op {\"op\":\"append_rows\",\"table\":\"U\",\"rows\":[]}\r\n",
             "{\"error\":\"NoTable\",\"name\":\"U\"}\n",
@@ -140,7 +150,7 @@ fn numbers_rows_and_escapes_texts(rt: HostRuntime) -> Result<(), Fail> {
     let input = joined(rt.alloc(), &[FIRST, rows, again, SELECT])?;
     let (_, written) = played(rt.alloc(), &["play", "box"], input, 64, 0, 0)?;
     let replies =
-        "{\"version\":1}\n{\"version\":2}\n{\"error\":\"NotYet\"}\n{\"columns\":[\"Name\"],\"rows\":[[null],[null],[\"é\\\"\\n\"]]}\n";
+        "{\"version\":1}\n{\"version\":2}\n{\"error\":\"DuplicateRow\",\"id\":\"r1\"}\n{\"columns\":[\"Name\"],\"rows\":[[null],[null],[\"é\\\"\\n\"]]}\n";
     assert!(rt; written.as_slice() == replies.as_bytes());
     Ok(())
 }

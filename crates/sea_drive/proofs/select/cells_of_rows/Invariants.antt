@@ -1,5 +1,5 @@
 use Rattle.std.proofs.Common.{◌≡◌, map, take}
-use Rattle.sea_drive.specs.Select.{cell_in}
+use Rattle.sea_cell.specs.Cells.{cell_in}
 use Rattle.sea_drive.proofs.select.cells_of_rows.Given as goal
 
 abbrev pub invariant-loop-row : goal.invariant-loop-row

@@ -1,0 +1,17 @@
+-- What is seen of a base whose schema and rows stand apart.
+use Rattle.std.specs.Prelude.{◌≡◌, ℕ, List, Bool, map}
+use Rattle.sea_cell.specs.declared.keys.TableNo.{TableNo}
+use Rattle.sea_schema.specs.Layout.{Layout}
+use Rattle.sea_plain.specs.declared.base.Plain.{Plain}
+use Rattle.sea_plain.specs.declared.seen.Counters.{Counters}
+use Rattle.sea_plain.specs.Seen.{Seen, seen_of}
+
+-- the tables of the schema, the numbers, and the ids that rows have
+abbrev pub seen_beside : Layout → Counters → (TableNo → List ℕ → Bool) → Seen
+seen_beside schema counters has = record { tables = schema.tables; counters = counters; has = has }
+
+-- the schema, the numbers and the ids are those of a plain base
+pub record Shows (schema : Layout) (counters : Counters) (has : TableNo → List ℕ → Bool) (base : Plain) : Type 0 where
+  pub tables : schema.tables ≡ map (λ plain. plain.table) base.tables
+  pub numbers : counters ≡ (seen_of base).counters
+  pub ids : (table : TableNo) (id : List ℕ) → has table id ≡ (seen_of base).has table id

@@ -1,6 +1,0 @@
-use Rattle.std.proofs.Common.{◌≡◌, ◌+◌, ◌++◌, drop}
-use Rattle.sea_plain.specs.RowsOf.{columns_of}
-use Rattle.sea_plain.proofs.made.columns_of.Given as goal
-
-abbrev pub invariant-loop-column : goal.invariant-loop-column
-invariant-loop-column l = (l.next ≡ l.key + l.column-index) × (l.made ++ columns_of l.next (drop l.column-index l.columns) ≡ columns_of l.key l.columns)

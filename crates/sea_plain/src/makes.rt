@@ -1,0 +1,143 @@
+// What an operation names and what it makes, by its form.
+ghost use Rattle.std.specs.Prelude.{◌≡◌, ℕ, List};
+ghost use Rattle.sea_plain.specs.declared.operation.NamedCell.{NamedCell};
+ghost use Rattle.sea_plain.specs.Makes.{table_name as table_name_of, columns_made as columns_made_of, tables_made as tables_made_of, rows_made as rows_made_of};
+
+use crate::operation::{NamedCell, Op, OpRow, RowChange};
+use sea_cell::{NewColumn, RowId, Text};
+use std::slice;
+
+/// The table that an operation names.
+pub fn table_name(op: &Op) -> &Text
+    ensures { result.now ≡ table_name_of op.now }
+{
+    match op {
+        Op::InsertTable { table, columns: _ } => table,
+        Op::RenameTable { table, to: _ } => table,
+        Op::DeleteTable { table } => table,
+        Op::InsertColumn { table, column: _ } => table,
+        Op::RenameColumn {
+            table,
+            column: _,
+            to: _,
+        } => table,
+        Op::DeleteColumn { table, column: _ } => table,
+        Op::AddOptions {
+            table,
+            column: _,
+            options: _,
+        } => table,
+        Op::AppendRows { table, rows: _ } => table,
+        Op::ModifyRows { table, rows: _ } => table,
+        Op::DeleteRows { table, ids: _ } => table,
+        Op::AddLink {
+            table,
+            column: _,
+            row: _,
+            others: _,
+        } => table,
+        Op::RemoveLink {
+            table,
+            column: _,
+            row: _,
+            others: _,
+        } => table,
+        Op::InsertView { table, view: _ } => table,
+        Op::ModifyView { table, view: _ } => table,
+        Op::DeleteView { table, view: _ } => table,
+    }
+}
+
+/// The columns that an operation makes.
+pub fn columns_made(op: &Op) -> &[NewColumn]
+    ensures { result.now ≡ columns_made_of op.now }
+{
+    match op {
+        Op::InsertTable { table: _, columns } => columns.as_slice(),
+        Op::InsertColumn { table: _, column } => slice::from_ref(column),
+        _ => &[],
+    }
+}
+
+/// How many tables an operation makes.
+pub fn tables_made(op: &Op) -> u32
+    ensures { result ≡ tables_made_of op.now }
+{
+    match op {
+        Op::InsertTable {
+            table: _,
+            columns: _,
+        } => 1,
+        _ => 0,
+    }
+}
+
+/// How many rows an operation makes.
+pub fn rows_made(op: &Op) -> u64
+    ensures { result ≡ rows_made_of op.now }
+{
+    match op {
+        Op::AppendRows { table: _, rows } => rows.len() as u64,
+        _ => 0,
+    }
+}
+
+/// A row of an operation that writes cells.
+pub trait WritesCells {
+    /// The cells.
+    ghost cells: { Self → List NamedCell };
+
+    /// The cells, in byte order of their names.
+    fn cells(&self) -> &[NamedCell]
+        ensures { result.now ≡ cells self.now };
+}
+
+impl WritesCells for OpRow {
+    ghost cells = { λ row. row.cells };
+
+    fn cells(&self) -> &[NamedCell] {
+        self.cells.as_slice()
+    }
+}
+
+impl WritesCells for RowChange {
+    ghost cells = { λ change. change.cells };
+
+    fn cells(&self) -> &[NamedCell] {
+        self.cells.as_slice()
+    }
+}
+
+/// A thing with a name or an id that its table knows it by.
+pub trait Named {
+    /// The name or id.
+    ghost name: { Self → List ℕ };
+
+    /// The name or id.
+    fn name(&self) -> &str
+        ensures { result.now ≡ name self.now };
+}
+
+impl Named for RowId {
+    ghost name = { λ id. id.0 };
+
+    fn name(&self) -> &str {
+        self.0.as_str()
+    }
+}
+
+impl Named for RowChange {
+    ghost name = { λ change. change.id.0 };
+
+    fn name(&self) -> &str {
+        self.id.0.as_str()
+    }
+}
+
+impl Named for NewColumn {
+    ghost name = { λ column. column.name };
+
+    fn name(&self) -> &str {
+        self.name.as_str()
+    }
+}
