@@ -5,6 +5,8 @@ pub mod TextsRead
 pub mod TokensRead
 pub mod DataRead
 pub mod TextsAgain
+pub mod InOrder
+pub mod StraightTexts
 pub mod OpsAgain
 pub mod OpsForms
 pub mod FormsLaws

@@ -1,4 +1,5 @@
 pub mod Beside
 pub mod Operations
 pub mod Texts
+pub mod Straight
 pub mod Record

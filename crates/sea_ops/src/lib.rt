@@ -12,6 +12,7 @@ mod members;
 mod reading;
 mod record;
 mod rows;
+mod straight;
 #[cfg(test)]
 mod tests;
 mod views;

@@ -4,6 +4,7 @@ ghost use Rattle.serde_json.specs.Data.{string, no_members, put as put_of};
 ghost use Rattle.serde_json.specs.View.{view, members_view};
 ghost use Rattle.sea_ops.specs.Texts.{text_of, json_of, insert_table_json as insert_table_json_of, insert_column_json as insert_column_json_of, add_options_json as add_options_json_of, append_rows_json as append_rows_json_of, modify_rows_json as modify_rows_json_of, delete_rows_json as delete_rows_json_of, links_json as links_json_of, put_view_json as put_view_json_of, rename_table_json as rename_table_json_of, delete_table_json as delete_table_json_of, rename_column_json as rename_column_json_of, delete_column_json as delete_column_json_of, delete_view_json as delete_view_json_of, columns_json as columns_json_of, column_json as column_json_of, number_column_json as number_column_json_of, select_column_json as select_column_json_of, link_column_json as link_column_json_of, plain_column_json as plain_column_json_of, with_id_json as with_id_json_of, rows_json as rows_json_of, row_json as row_json_of, changes_json as changes_json_of, change_json as change_json_of, filters_json as filters_json_of, filter_json as filter_json_of, view_json as view_json_of, conjunction_word as conjunction_word_of, with_cells, json_of_word, texts_json as texts_json_of, ids_json as ids_json_of, whole_json as whole_json_of};
 
+use crate::straight::rows_text;
 use sea_cell::{CellWord, ColKind, NewColumn, RowId, Text, type_word};
 use sea_fields::Bytes;
 use sea_plain::{NamedCell, NewFilter, NewView, Op, OpRow, RowChange};
@@ -15,8 +16,11 @@ use std::alloc::{AllocError, Global};
 pub fn op_text(alloc: Global, op: &Op) -> Result<Bytes, AllocError>
     ensures { IfOk result (λ text. text ≡ text_of op.now) }
 {
-    let text = op_json(alloc, op)?.to_vec(alloc)?;
-    Ok(Bytes::from(text))
+    if let Some(text) = rows_text(alloc, op)? {
+        return Ok(text);
+    }
+    let bytes = op_json(alloc, op)?.to_vec(alloc)?;
+    Ok(Bytes::from(bytes))
 }
 
 // The JSON value of an operation.

@@ -13,6 +13,8 @@ use Rattle.sea_plain.specs.declared.operation.Op.{Op}
 use Rattle.sea_plain.specs.declared.operation.Op.TheVariants.{InsertTable, RenameTable, DeleteTable, InsertColumn, RenameColumn, DeleteColumn, AddOptions, AppendRows, ModifyRows, DeleteRows, AddLink, RemoveLink, InsertView, ModifyView, DeleteView}
 use Rattle.sea_plain.specs.Apply.{applied, rows_after, has_other_name, plain_after, table_after}
 use Rattle.sea_plain.specs.Makes.{table_name}
+use Rattle.sea_plain.specs.Refusal.{new_rows}
+use Rattle.sea_plain.specs.Seen.{seen_of}
 use Rattle.sea_plain.specs.Schemas.{schema_of, schema_after}
 
 -- a table without its rows
@@ -73,7 +75,7 @@ one_table : (base : Plain) (moment : Moment) (op : Op) (change : Table → Table
     ≡ schema (map (if_table (table_name op) change) (map bare base.tables)) base.next_table (base.next_column + columns) base.next_link
 one_table base moment op change columns is =
     same_schema _ _ (base.next_table + 0) (base.next_column + columns) base.next_table (base.next_column + columns) base.next_link
-    (tables_changed (table_name op) (table_after base.next_column op) (λ plain. rows_after moment base.next_row op plain.table plain.rows) base.tables
+    (tables_changed (table_name op) (table_after base.next_column op) (λ plain. rows_after moment (new_rows (seen_of base) moment op) op plain.table plain.rows) base.tables
     ∙ ap (λ (it : Table → Table). map (if_table (table_name op) it) (map bare base.tables)) is)
     (no_more base.next_table) refl
 

@@ -1,4 +1,5 @@
 pub mod Alike
 pub mod Numbers
 pub mod Repeats
+pub mod Stamps
 pub mod Tables

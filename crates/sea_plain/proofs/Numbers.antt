@@ -6,7 +6,7 @@ use Rattle.sea_plain.specs.declared.refusal.Counter.{Counter}
 use Rattle.sea_plain.specs.declared.refusal.Counter.TheVariants as counter
 use Rattle.sea_plain.specs.declared.refusal.OpRefusal.TheVariants.{NumbersSpent}
 use Rattle.sea_plain.specs.Makes.{columns_made, tables_made, rows_made}
-use Rattle.sea_plain.specs.Refusal.{or_else, spent, numbers_spent}
+use Rattle.sea_plain.specs.Refusal.{or_else, spent, not_built, numbers_spent, seen_refusal}
 use Rattle.sea_plain.specs.Seen.{Seen}
 
 -- where neither of two is there
@@ -48,3 +48,7 @@ has_room seen op h =
       tables = within counter.NextTable seen.counters.table (tables_made op) 4294967295 tables.0;
       columns = within counter.NextColumn seen.counters.column (length (columns_made op)) 4294967295 tables.1;
     }
+
+-- an operation that isn't refused spends no number
+pub unspent : (seen : Seen) (op : Op) → seen_refusal seen op ≡ None → numbers_spent seen op ≡ None
+unspent seen op h = (neither (numbers_spent seen op) _ (neither (not_built op) _ h).1).0

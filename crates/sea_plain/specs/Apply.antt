@@ -12,8 +12,9 @@ use Rattle.sea_plain.specs.declared.operation.Op.TheVariants.{InsertTable, Renam
 use Rattle.sea_plain.specs.declared.operation.Entry.{Entry}
 use Rattle.sea_plain.specs.declared.refusal.OpRefusal.{OpRefusal}
 use Rattle.sea_plain.specs.Makes.{table_name, columns_made, tables_made, rows_made}
-use Rattle.sea_plain.specs.RowsOf.{rows_of, after_changes, without_cell, has_other_id}
-use Rattle.sea_plain.specs.Refusal.{refusal_of}
+use Rattle.sea_plain.specs.RowsOf.{after_changes, without_cell, has_other_id}
+use Rattle.sea_plain.specs.Refusal.{new_rows, refusal_of}
+use Rattle.sea_plain.specs.Seen.{seen_of}
 
 -- the operation's table without its rows, where new columns get their keys from this one on
 abbrev pub table_after : ℕ → Op → Table → Table
@@ -24,19 +25,19 @@ table_after key (DeleteColumn _ column) table = without_column column table
 table_after key (AddOptions _ column options) table = with_options column options table
 table_after key _ table = table
 
--- the rows of the operation's table, where new rows get their numbers from this one on
-abbrev pub rows_after : Moment → ℕ → Op → Table → List Row → List Row
-rows_after moment number (DeleteColumn _ column) table rows = map (without_cell (key_named table.columns column)) rows
-rows_after moment number (AppendRows _ new) table rows = rows ++ rows_of table.columns moment number new
-rows_after moment number (ModifyRows _ changes) table rows = map (after_changes table.columns moment changes) rows
-rows_after moment number (DeleteRows _ ids) table rows = filter (has_other_id (map (λ id. id.0) ids)) rows
-rows_after moment number _ table rows = rows
+-- the rows of the operation's table, with the rows that it makes at the end
+abbrev pub rows_after : Moment → List Row → Op → Table → List Row → List Row
+rows_after moment new (DeleteColumn _ column) table rows = map (without_cell (key_named table.columns column)) rows
+rows_after moment new (AppendRows _ _) table rows = rows ++ new
+rows_after moment new (ModifyRows _ changes) table rows = map (after_changes table.columns moment changes) rows
+rows_after moment new (DeleteRows _ ids) table rows = filter (has_other_id (map (λ id. id.0) ids)) rows
+rows_after moment new _ table rows = rows
 
 -- a table, after the operation if it is the one that the operation names
 abbrev pub plain_after : Plain → Moment → Op → PlainTable → PlainTable
 plain_after base moment op plain =
     if bytes_eq plain.table.name (table_name op)
-    then record { table = table_after base.next_column op plain.table; rows = rows_after moment base.next_row op plain.table plain.rows }
+    then record { table = table_after base.next_column op plain.table; rows = rows_after moment (new_rows (seen_of base) moment op) op plain.table plain.rows }
     else plain
 
 -- a table of another name

@@ -2,6 +2,7 @@
 use Rattle.std.specs.Prelude.{ℕ, List, [], ◌∷◌, length, map}
 use Rattle.sea_cell.specs.declared.layout.NewColumn.{NewColumn}
 use Rattle.sea_plain.specs.declared.operation.NamedCell.{NamedCell}
+use Rattle.sea_plain.specs.declared.operation.OpRow.{OpRow}
 use Rattle.sea_plain.specs.declared.operation.Op.{Op}
 use Rattle.sea_plain.specs.declared.operation.Op.TheVariants.{InsertTable, RenameTable, DeleteTable, InsertColumn, RenameColumn, DeleteColumn, AddOptions, AppendRows, ModifyRows, DeleteRows, AddLink, RemoveLink, InsertView, ModifyView, DeleteView}
 
@@ -45,6 +46,11 @@ columns_made _ = []
 abbrev pub tables_made : Op → ℕ
 tables_made (InsertTable _ _) = 1
 tables_made _ = 0
+
+-- the rows that it makes, as it has them
+abbrev pub rows_given : Op → List OpRow
+rows_given (AppendRows _ rows) = rows
+rows_given _ = []
 
 -- how many rows it makes
 abbrev pub rows_made : Op → ℕ

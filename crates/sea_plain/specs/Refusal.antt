@@ -28,7 +28,7 @@ use Rattle.sea_plain.specs.declared.refusal.Counter.TheVariants as counter
 use Rattle.sea_plain.specs.declared.refusal.OpRefusal.{OpRefusal}
 use Rattle.sea_plain.specs.declared.refusal.OpRefusal.TheVariants as refusal
 use Rattle.sea_plain.specs.Base.{plain_named}
-use Rattle.sea_plain.specs.Makes.{table_name, ids_named, cells_written, columns_made, tables_made, rows_made}
+use Rattle.sea_plain.specs.Makes.{table_name, ids_named, cells_written, columns_made, tables_made, rows_made, rows_given}
 use Rattle.sea_plain.specs.Names.{is_name, is_id, is_option, first_repeat}
 use Rattle.sea_plain.specs.RowsOf.{ids_of, rows_of, changed_row}
 use Rattle.sea_plain.specs.Seen.{Seen, seen_of, columns_in, has_id}
@@ -217,13 +217,16 @@ too_many seen op = above_limit 1000 (length (ids_named op))
 abbrev pub large_row : Row → Option OpRefusal
 large_row row = if nat_lt 8192 (row_bytes_of row) then Some (refusal.RowTooBig (row_bytes_of row)) else None
 
+-- the rows that an operation makes at a moment
+abbrev pub new_rows : Seen → Moment → Op → List Row
+new_rows seen moment op = rows_of (columns_in seen (table_name op)) moment seen.counters.row (rows_given op)
+
 -- Each moment of the range takes the same bytes, so new rows are weighed as if they were made at the first of 1970.
 abbrev pub some_moment : Moment
 some_moment = record { 0 = pos 0 }
 
 abbrev pub large_new_row : Seen → Op → Option OpRefusal
-large_new_row seen (AppendRows table rows) = first_at large_row (rows_of (columns_in seen table) some_moment seen.counters.row rows)
-large_new_row seen _ = None
+large_new_row seen op = first_at large_row (new_rows seen some_moment op)
 
 -- ---- NotSelect and FirstColumn
 

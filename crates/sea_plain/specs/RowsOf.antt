@@ -52,6 +52,10 @@ abbrev pub rows_of : List Column → Moment → ℕ → List OpRow → List Row
 rows_of columns moment number [] = []
 rows_of columns moment number (row ∷ rows) = row_of columns moment number row ∷ rows_of columns moment (number + 1) rows
 
+-- a row that was made and last changed at a moment
+abbrev pub stamped : Moment → Row → Row
+stamped moment row = record row { made = moment; changed = moment }
+
 -- the change of a row: given cells are replaced, and it was last changed when the operation was made
 abbrev pub changed_row : List Column → Moment → RowChange → Row → Row
 changed_row columns moment change row = record row { changed = moment; cells = fold (with_member columns) row.cells change.cells }

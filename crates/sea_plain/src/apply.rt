@@ -3,17 +3,17 @@ ghost use Rattle.std.specs.Prelude.{◌≡◌, ◌≢◌, ◌≤◌, ◌⊎◌, 
 ghost use Rattle.sea_schema.specs.Tables.{table_of};
 ghost use Rattle.sea_cell.specs.Answers.{Answers};
 ghost use Rattle.sea_plain.specs.Apply.{applied as applied_to, apply, after, table_after as table_after_of, rows_after as rows_after_of, plain_after as plain_after_of, has_other_name as has_other_name_of, tables_after as tables_after_of};
-ghost use Rattle.sea_plain.specs.Refusal.{numbers_spent};
+ghost use Rattle.sea_plain.specs.Refusal.{new_rows as new_rows_of, numbers_spent, some_moment};
 ghost use Rattle.sea_plain.specs.Seen.{seen_of};
 
 use crate::base::{Plain, PlainTable, PlainTables};
 use crate::changed::{rows_after_changes, rows_without, rows_without_column};
-use crate::checking::{changes_fit, check};
-use crate::made::rows_of;
+use crate::checking::{changes_fit, new_rows};
+use crate::made::stamped_rows;
 use crate::makes::{columns_made, rows_made, table_name, tables_made};
 use crate::operation::{Entries, Entry, Op};
 use crate::refusal::OpRefusal;
-use sea_cell::{ColKey, Duplicate, Moment, NewColumn, Rows, Shared, TableNo};
+use sea_cell::{ColKey, Duplicate, Moment, NewColumn, Row, Rows, Shared, TableNo};
 use sea_schema::Table;
 use sqlite_items::Items;
 use std::alloc::{AllocError, Global};
@@ -22,9 +22,9 @@ use std::alloc::{AllocError, Global};
 pub fn apply_plain(alloc: Global, base: &Plain, entry: &Entry) -> Result<Plain, OpRefusal>
     ensures { Answers OpRefusal.Memory result (apply base.now entry.now) }
 {
-    check(alloc, &entry.op, base)?;
+    let rows = new_rows(alloc, &entry.op, base)?;
     changes_fit(alloc, base, entry.moment, &entry.op)?;
-    Ok(applied(alloc, base, entry.moment, &entry.op)?)
+    Ok(applied(alloc, base, entry.moment, &entry.op, rows)?)
 }
 
 /// The base after all entries, or the first entry that is refused, counted from 0, with its refusal. Where memory ran
@@ -48,18 +48,27 @@ pub fn run_plain(alloc: Global, base: &Plain, entries: &Entries) -> Result<Plain
     Ok(new)
 }
 
-// The base after an operation that it accepts.
-fn applied(alloc: Global, base: &Plain, moment: Moment, op: &Op) -> Result<Plain, AllocError>
-    requires { numbers_spent (seen_of base.now) op.now ≡ None }
+// The base after an operation that it accepts, which makes these rows.
+#[tactic(auto, using(crate::proofs::Stamps::stamped_are_made))]
+fn applied(
+    alloc: Global,
+    base: &Plain,
+    moment: Moment,
+    op: &Op,
+    rows: Vec<Row>,
+) -> Result<Plain, AllocError>
+    requires room { numbers_spent (seen_of base.now) op.now ≡ None }
+    requires rows { rows.items ≡ new_rows_of (seen_of base.now) some_moment op.now }
     ensures { IfOk result (λ new. new ≡ applied_to base.now moment op.now) }
 {
+    let new = stamped_rows(alloc, moment, rows)?;
     Ok(Plain {
         version: base.version + 1,
         next_row: raised(base.next_row, rows_made(op)),
         next_table: raised_key(base.next_table, tables_made(op) as usize),
         next_column: raised_key(base.next_column, columns_made(op).len()),
         next_link: base.next_link,
-        tables: tables_after(alloc, base, moment, op)?,
+        tables: tables_after(alloc, base, moment, op, &new)?,
         pairs: base.pairs.duplicate(alloc)?,
     })
 }
@@ -86,8 +95,10 @@ fn tables_after(
     base: &Plain,
     moment: Moment,
     op: &Op,
+    new: &Rows,
 ) -> Result<PlainTables, AllocError>
-    requires { numbers_spent (seen_of base.now) op.now ≡ None }
+    requires room { numbers_spent (seen_of base.now) op.now ≡ None }
+    requires new { new.now ≡ new_rows_of (seen_of base.now) moment op.now }
     ensures { IfOk result (λ tables. tables ≡ tables_after_of base.now moment op.now) }
 {
     match op {
@@ -102,7 +113,7 @@ fn tables_after(
         Op::DeleteTable { table } => {
             tables_without(alloc, base.tables.as_slice(), table.as_str())
         }
-        _ => changed_tables(alloc, base, moment, op),
+        _ => changed_tables(alloc, base, moment, op, new),
     }
 }
 
@@ -154,13 +165,14 @@ fn changed_tables(
     base: &Plain,
     moment: Moment,
     op: &Op,
+    new: &Rows,
 ) -> Result<PlainTables, AllocError>
-    requires { numbers_spent (seen_of base.now) op.now ≡ None }
+    requires { new.now ≡ new_rows_of (seen_of base.now) moment op.now }
     ensures { IfOk result (λ tables. tables ≡ map (plain_after_of base.now moment op.now) base.now.tables) }
 {
     let mut tables = Items::new(alloc);
     for plain in base.tables.as_slice() {
-        tables.push(plain_after(alloc, base, moment, op, plain)?)?;
+        tables.push(plain_after(alloc, base, moment, op, new, plain)?)?;
     }
     Ok(tables)
 }
@@ -171,9 +183,10 @@ fn plain_after(
     base: &Plain,
     moment: Moment,
     op: &Op,
+    new: &Rows,
     plain: &PlainTable,
 ) -> Result<PlainTable, AllocError>
-    requires { numbers_spent (seen_of base.now) op.now ≡ None }
+    requires { new.now ≡ new_rows_of (seen_of base.now) moment op.now }
     ensures { IfOk result (λ new. new ≡ plain_after_of base.now moment op.now plain.now) }
 {
     if plain.table.get().name.as_str() != table_name(op).as_str() {
@@ -181,7 +194,7 @@ fn plain_after(
     }
     Ok(PlainTable {
         table: table_after(alloc, base.next_column, op, &plain.table)?,
-        rows: rows_after(alloc, base, moment, op, plain)?,
+        rows: rows_after(alloc, moment, op, new, plain)?,
     })
 }
 
@@ -227,16 +240,15 @@ fn share<T: Drop>(alloc: Global, value: T) -> Result<Shared<T>, AllocError>
     Shared::new(alloc, value)
 }
 
-// The rows of the operation's table.
+// The rows of the operation's table, where it makes new ones.
 fn rows_after(
     alloc: Global,
-    base: &Plain,
     moment: Moment,
     op: &Op,
+    new: &Rows,
     plain: &PlainTable,
 ) -> Result<Shared<Rows>, AllocError>
-    requires { numbers_spent (seen_of base.now) op.now ≡ None }
-    ensures { IfOk result (λ new. new ≡ rows_after_of moment base.now.next_row op.now plain.now.table plain.now.rows) }
+    ensures { IfOk result (λ rows. rows ≡ rows_after_of moment new.now op.now plain.now.table plain.now.rows) }
 {
     let columns = plain.table.get().columns.as_slice();
     let rows = plain.rows.get();
@@ -248,13 +260,7 @@ fn rows_after(
                 rows_without_column(alloc, table, column.as_str(), rows.as_slice())?,
             )
         }
-        Op::AppendRows {
-            table: _,
-            rows: new,
-        } => {
-            let made = rows_of(alloc, columns, moment, base.next_row, new.as_slice())?;
-            share(alloc, rows_with(alloc, rows, made)?)
-        }
+        Op::AppendRows { table: _, rows: _ } => share(alloc, rows_with(alloc, rows, new)?),
         Op::ModifyRows {
             table: _,
             rows: changes,
@@ -273,10 +279,10 @@ fn rows_after(
 }
 
 // Rows with more of them at the end.
-fn rows_with(alloc: Global, rows: &Rows, more: Rows) -> Result<Rows, AllocError>
-    ensures { IfOk result (λ all. all ≡ rows.now ++ more) }
+fn rows_with(alloc: Global, rows: &Rows, more: &Rows) -> Result<Rows, AllocError>
+    ensures { IfOk result (λ all. all ≡ rows.now ++ more.now) }
 {
     let mut all = rows.duplicate(alloc)?;
-    all.append(more)?;
+    all.append(more.duplicate(alloc)?)?;
     Ok(all)
 }

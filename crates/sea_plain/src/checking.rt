@@ -1,12 +1,12 @@
 // The first refusal of an operation: one check for each kind of refusal, in their order.
-ghost use Rattle.std.specs.Prelude.{◌≡◌, ◌+◌, ◌++◌, [], None, option_map, option_and_then, map};
+ghost use Rattle.std.specs.Prelude.{◌≡◌, ◌+◌, ◌++◌, [], None, option_map, option_and_then, map, IfOk};
 ghost use Rattle.std.specs.List.{find};
 ghost use Rattle.std.specs.Str.{bytes_eq};
 ghost use Rattle.std.specs.Option.{option_copied};
 ghost use Rattle.sea_plain.specs.Checks.{Checks};
 ghost use Rattle.sea_plain.specs.Makes.{cells_written};
 ghost use Rattle.sea_plain.specs.Names.{first_repeat as first_repeat_of};
-ghost use Rattle.sea_plain.specs.Refusal.{seen_refusal, is_built as is_built_of, not_built, is_link as is_link_of, spent, numbers_spent, missing_table, no_table as no_table_in, missing_column, missing_member as missing_member_of, missing_in, no_column as no_column_in, bad_text, bad_id, bad_option as bad_option_in, bad_column as bad_column_in, bad_name as bad_name_in, unused, taken_table, taken_column, name_taken as name_taken_in, refused_cell, refused_in, bad_cell as bad_cell_in, above_limit, many_options as many_options_in, options_in as options_in_of, too_many as too_many_in, large_row, large_new_row as large_new_row_in, not_select as not_select_in, is_first as is_first_of, first_column as first_column_in, large_change as large_change_in, large_changed_row, first_at};
+ghost use Rattle.sea_plain.specs.Refusal.{seen_refusal, is_built as is_built_of, not_built, is_link as is_link_of, spent, numbers_spent, missing_table, no_table as no_table_in, missing_column, missing_member as missing_member_of, missing_in, no_column as no_column_in, bad_text, bad_id, bad_option as bad_option_in, bad_column as bad_column_in, bad_name as bad_name_in, unused, taken_table, taken_column, name_taken as name_taken_in, refused_cell, refused_in, bad_cell as bad_cell_in, above_limit, many_options as many_options_in, options_in as options_in_of, too_many as too_many_in, large_row, new_rows as new_rows_of, some_moment, not_select as not_select_in, is_first as is_first_of, first_column as first_column_in, large_change as large_change_in, large_changed_row, first_at};
 ghost use Rattle.sea_plain.specs.RowsOf.{changed_row as changed_row_of};
 ghost use Rattle.sea_plain.specs.Seen.{columns_in as columns_in_seen};
 
@@ -39,6 +39,16 @@ const LAST_KEY: u64 = 4_294_967_295;
 pub fn check<S: SeenBase>(alloc: Global, op: &Op, seen: &S) -> Result<(), OpRefusal>
     ensures { Checks result (seen_refusal (S.seen seen.now) op.now) }
 {
+    new_rows(alloc, op, seen)?;
+    Ok(())
+}
+
+/// The rows that an operation makes, as if it were made at the first of 1970, where `check` passes it. Else it fails as
+/// `check` does.
+pub fn new_rows<S: SeenBase>(alloc: Global, op: &Op, seen: &S) -> Result<Vec<Row>, OpRefusal>
+    ensures refused { Checks result (seen_refusal (S.seen seen.now) op.now) }
+    ensures made { IfOk result (λ rows. rows.items ≡ new_rows_of (S.seen seen.now) some_moment op.now) }
+{
     built(op)?;
     numbers(op, seen)?;
     no_table(alloc, op, seen)?;
@@ -46,13 +56,13 @@ pub fn check<S: SeenBase>(alloc: Global, op: &Op, seen: &S) -> Result<(), OpRefu
     no_row(alloc, op, seen)?;
     bad_name(alloc, op)?;
     name_taken(alloc, op, seen)?;
-    bad_cell(alloc, op, seen)?;
+    let rows = bad_cell(alloc, op, seen)?;
     duplicate_row(alloc, op, seen)?;
     too_many(alloc, op, seen)?;
-    large_new_row(alloc, op, seen)?;
+    large_row_in(rows.as_slice())?;
     not_select(alloc, op, seen)?;
     first_column(alloc, op, seen)?;
-    Ok(())
+    Ok(rows)
 }
 
 // The operation is one that is built.
@@ -395,36 +405,35 @@ fn column_taken(alloc: Global, columns: &[Column], name: &Text) -> Result<(), Op
     })
 }
 
-// Each cell is one that its column takes.
-fn bad_cell<S: SeenBase>(alloc: Global, op: &Op, seen: &S) -> Result<(), OpRefusal>
-    ensures { Checks result (bad_cell_in (S.seen seen.now) op.now) }
+// Each cell is one that its column takes. The new rows are made of them at once.
+fn bad_cell<S: SeenBase>(alloc: Global, op: &Op, seen: &S) -> Result<Vec<Row>, OpRefusal>
+    requires { numbers_spent (S.seen seen.now) op.now ≡ None }
+    ensures refused { Checks result (bad_cell_in (S.seen seen.now) op.now) }
+    ensures made { IfOk result (λ rows. rows.items ≡ new_rows_of (S.seen seen.now) some_moment op.now) }
 {
-    take_cells(alloc, columns_in(seen, table_name(op).as_str()), op)?;
-    Ok(())
-}
-
-// The columns take the cells of the operation's rows.
-#[tactic(auto, unfolding(crate::specs::Refusal::refused_in))]
-fn take_cells(alloc: Global, columns: &[Column], op: &Op) -> Result<(), OpRefusal>
-    ensures { Checks result (refused_in columns.now (cells_written op.now)) }
-{
+    let columns = columns_in(seen, table_name(op).as_str());
     match op {
-        Op::AppendRows { table: _, rows } => bad_cell_in_rows(alloc, columns, rows.as_slice()),
-        Op::ModifyRows { table: _, rows } => bad_cell_in_rows(alloc, columns, rows.as_slice()),
-        _ => Ok(()),
+        Op::AppendRows { table: _, rows } => {
+            rows_of(alloc, columns, seen.counters().row, rows.as_slice())
+        }
+        Op::ModifyRows { table: _, rows } => {
+            bad_cell_in_changes(alloc, columns, rows.as_slice())?;
+            Ok(Vec::new(alloc))
+        }
+        _ => Ok(Vec::new(alloc)),
     }
 }
 
 #[tactic(auto, unfolding(crate::specs::Refusal::refused_in))]
-fn bad_cell_in_rows<R: WritesCells>(
+fn bad_cell_in_changes(
     alloc: Global,
     columns: &[Column],
-    rows: &[R],
+    changes: &[RowChange],
 ) -> Result<(), OpRefusal>
-    ensures { Checks result (refused_in columns.now (map R.cells rows.now)) }
+    ensures { Checks result (refused_in columns.now (map (λ change. change.cells) changes.now)) }
 {
-    for row in rows {
-        bad_cell_in_row(alloc, columns, row.cells())?;
+    for change in changes {
+        bad_cell_in_row(alloc, columns, change.cells.as_slice())?;
     }
     Ok(())
 }
@@ -540,18 +549,11 @@ fn many_more_options(
 }
 
 // Each new row has an encoding of at most 8,192 bytes.
-fn large_new_row<S: SeenBase>(alloc: Global, op: &Op, seen: &S) -> Result<(), OpRefusal>
-    requires { numbers_spent (S.seen seen.now) op.now ≡ None }
-    ensures { Checks result (large_new_row_in (S.seen seen.now) op.now) }
+fn large_row_in(rows: &[Row]) -> Result<(), OpRefusal>
+    ensures { Checks result (first_at large_row rows.now) }
 {
-    let Op::AppendRows { table, rows } = op else {
-        return Ok(());
-    };
-    let columns = columns_in(seen, table.as_str());
-    let number = seen.counters().row;
-    let made = rows_of(alloc, columns, Moment(0), number, rows.as_slice())?;
-    for row in made.as_slice() {
-        fits_row(row.get())?;
+    for row in rows {
+        fits_row(row)?;
     }
     Ok(())
 }

@@ -9,4 +9,4 @@ pub returns : goal.returns
 unfolding text_of
 returns c =
     let json = c.in_ok-op_json.ensures in
-    c.from.ensures ∙ c.in_ok-text.ensures.text (ap has_float json ∙ has_float-json_of c.args.op.now) ∙ ap compact_text json
+    c.from.ensures ∙ c.in_ok-bytes.ensures.text (ap has_float json ∙ has_float-json_of c.args.op.now) ∙ ap compact_text json

@@ -1,0 +1,6 @@
+use Rattle.std.proofs.Common.{◌≡◌, ◌++◌, drop}
+use Rattle.sea_ops.specs.Straight.{members_of, tokens_of_members}
+use Rattle.sea_ops.proofs.straight.put_cells.Given as goal
+
+abbrev pub invariant-loop-cell : goal.invariant-loop-cell
+invariant-loop-cell l = (l.out.before ≡ l.initial.out.before) × (l.out.tokens ++ tokens_of_members (members_of (drop l.cell-index l.cells)) ≡ l.initial.out.tokens ++ tokens_of_members (members_of l.cells))
