@@ -87,7 +87,7 @@ pub fn cell_of_json(alloc: Global, column: &Column, json: &CellWord) -> Result<C
 }
 
 // The cell of a column that takes texts of at most `limit` bytes.
-fn text_of(alloc: Global, limit: usize, json: &CellWord) -> Result<CellValue, CellFault>
+pub(crate) fn text_of(alloc: Global, limit: usize, json: &CellWord) -> Result<CellValue, CellFault>
     ensures { Answers CellFault.Memory result (text_of_word limit json.now) }
 {
     match json {
@@ -113,7 +113,7 @@ fn text_within(alloc: Global, limit: usize, text: &Text) -> Result<CellValue, Ce
 
 // The cell of a number column.
 #[tactic(auto, unfolding(crate::specs::Conversion::number_of_word))]
-fn number_of(json: &CellWord) -> Result<CellValue, CellFault>
+pub(crate) fn number_of(json: &CellWord) -> Result<CellValue, CellFault>
     ensures { result ≡ number_of_word json.now }
 {
     match json {
@@ -135,7 +135,7 @@ fn number_within(units: i128) -> Result<CellValue, CellFault>
 
 // The cell of a checkbox column.
 #[tactic(auto, unfolding(crate::specs::Conversion::check_of_word))]
-fn check_of(json: &CellWord) -> Result<CellValue, CellFault>
+pub(crate) fn check_of(json: &CellWord) -> Result<CellValue, CellFault>
     ensures { result ≡ check_of_word json.now }
 {
     match json {
@@ -147,7 +147,7 @@ fn check_of(json: &CellWord) -> Result<CellValue, CellFault>
 
 // The cell of a date column.
 #[tactic(auto, unfolding(crate::specs::Conversion::date_of_word))]
-fn date_of(json: &CellWord) -> Result<CellValue, CellFault>
+pub(crate) fn date_of(json: &CellWord) -> Result<CellValue, CellFault>
     ensures { result ≡ date_of_word json.now }
 {
     match json {

@@ -49,18 +49,22 @@ rows_float (row ∷ rows) = rw (cells_float row) (rows_float rows)
 refusal_float : (refusal : OpRefusal) → has_float (refusal_json refusal) ≡ false
 refusal_float op.Memory = refl
 refusal_float op.BadOperation = refl
-refusal_float op.NotBuilt = refl
 refusal_float (op.NumbersSpent _) = refl
 refusal_float (op.NoTable _) = refl
 refusal_float (op.NoColumn _) = refl
+refusal_float (op.NoView _) = refl
 refusal_float (op.NoRow _) = refl
 refusal_float (op.BadName _) = refl
 refusal_float (op.NameTaken _) = refl
+refusal_float (op.BadFilter _) = refl
 refusal_float (op.BadCell _ _) = refl
 refusal_float (op.DuplicateRow _) = refl
 refusal_float (op.TooMany _) = refl
 refusal_float (op.RowTooBig _) = refl
+refusal_float (op.NotLink _) = refl
 refusal_float (op.NotSelect _) = refl
+refusal_float (op.LinkExists _) = refl
+refusal_float (op.NoLink _) = refl
 refusal_float (op.FirstColumn _) = refl
 
 pub outcome_float : (outcome : LineOutcome) → has_float (outcome_json outcome) ≡ false

@@ -8,7 +8,6 @@ use Rattle.sea_plain.specs.declared.base.Plain.{Plain}
 use Rattle.sea_plain.specs.declared.operation.Entry.{Entry}
 use Rattle.sea_plain.specs.declared.operation.Op.{Op}
 use Rattle.sea_plain.specs.Apply.{apply}
-use Rattle.sea_plain.specs.Refusal.{is_built}
 use Rattle.sea_plain.specs.declared.refusal.OpRefusal.{OpRefusal}
 use Rattle.sea_ops.specs.Operations.{op_of}
 use Rattle.sea_core.specs.declared.kept.Core.{Core}
@@ -22,7 +21,7 @@ use Rattle.sea_drive.specs.Asked.{asked_by}
 use Rattle.sea_drive.specs.Outcome.{entry_of}
 use Rattle.sea_core.specs.declared.fault.StartFault.{StartFault}
 use Rattle.sea_core.specs.declared.fault.StartFault.TheVariants as start
-use Rattle.sea_drive.specs.Steps.{EditsOp, EditsText, Refuses, IsFoundAgain, VerbStep, LineStep}
+use Rattle.sea_drive.specs.Steps.{EditsText, Refuses, IsFoundAgain, VerbStep, LineStep}
 use Rattle.sea_drive.specs.Texts.{without_return}
 use Rattle.sea_drive.specs.declared.asked.Verb.{Verb}
 use Rattle.sea_drive.specs.declared.asked.Verb.TheVariants.{Nothing, Unknown, Later, Edit, Select, Reopen}
@@ -119,11 +118,7 @@ module _ {D : Type 0} (told : Type 0) (shows : D → Shown) (law : (disk : D) �
     where
       by_op : (op : Option Op) → EditsText clock told shows old op result new → Kept old new
       by_op None stays = stays_kept old new sound stays.1
-      by_op (Some op) edits = by_built op (is_built op) edits
-        where
-          by_built : (op : Op) (built : Bool) → EditsOp clock told shows old op built result new → Kept old new
-          by_built op true (moment, tells, edited) = edits_kept old new (entry_of moment op) edited.answer edited.edited (edited.any_moment is sound) (edited.sound is sound) sound
-          by_built op false stays = stays_kept old new sound stays.1
+      by_op (Some op) (moment, tells, edited) = edits_kept old new (entry_of moment op) edited.answer edited.edited (edited.any_moment is sound) (edited.sound is sound) sound
   verb_kept clock old new Select rest result (inl wants) is sound = stays_kept old new sound wants.1
   verb_kept clock old new Select rest result (inr asked) is sound = stays_kept old new sound asked.1
   verb_kept clock old new Reopen rest result reopens is sound = record {

@@ -1,12 +1,12 @@
 -- What comes of a line.
 use Rattle.std.specs.Prelude.{ℕ, List, Bool, true, false, Option, Some, None, Result, Ok, Err, codes}
 use Rattle.sea_cell.specs.declared.keys.Moment.{Moment}
+use Rattle.sea_links.specs.declared.pair.LinkPair.{LinkPair}
 use Rattle.sea_plain.specs.Base.{plain_named}
 use Rattle.sea_plain.specs.declared.base.Plain.{Plain}
 use Rattle.sea_plain.specs.declared.base.PlainTable.{PlainTable}
 use Rattle.sea_plain.specs.declared.operation.Entry.{Entry}
 use Rattle.sea_plain.specs.declared.operation.Op.{Op}
-use Rattle.sea_plain.specs.declared.refusal.OpRefusal.{OpRefusal}
 use Rattle.sea_plain.specs.declared.refusal.OpRefusal.TheVariants as refusal
 use Rattle.sea_core.specs.declared.fault.CoreFault.{CoreFault}
 use Rattle.sea_core.specs.declared.fault.CoreFault.TheVariants as edit_fault
@@ -20,16 +20,11 @@ use Rattle.sea_drive.specs.Select.{answer_of}
 abbrev pub entry_of : Moment → Op → Entry
 entry_of moment op = record { op = op; moment = moment; user = codes "play" }
 
--- what comes of a refusal of an operation
-abbrev pub refusal_outcome : OpRefusal → LineOutcome
-refusal_outcome refusal.NotBuilt = NotYet
-refusal_outcome other = Refusal other
-
 -- what comes of an edit, where None is want of memory
 abbrev pub edit_outcome : Result ℕ CoreFault → Option LineOutcome
 edit_outcome (Ok version) = Some (Version version)
 edit_outcome (Err edit_fault.Memory) = None
-edit_outcome (Err (edit_fault.Op fault)) = Some (refusal_outcome fault)
+edit_outcome (Err (edit_fault.Op fault)) = Some (Refusal fault)
 edit_outcome (Err (edit_fault.BaseFailed count)) = Some (BaseFailed count)
 edit_outcome (Err (edit_fault.LogFull size)) = Some (LogFull size)
 edit_outcome (Err edit_fault.DiskFault) = Some DiskFault
@@ -41,14 +36,14 @@ start_outcome start.DiskFault = Some DiskFault
 start_outcome start.NotABase = Some NotABase
 
 -- the answer of a table, if there is one
-abbrev pub table_outcome : List ℕ → Option PlainTable → LineOutcome
-table_outcome name None = Refusal (refusal.NoTable name)
-table_outcome name (Some table) = Rows (answer_of table)
+abbrev pub table_outcome : List LinkPair → List ℕ → Option PlainTable → LineOutcome
+table_outcome pairs name None = Refusal (refusal.NoTable name)
+table_outcome pairs name (Some table) = Rows (answer_of pairs table)
 
 -- what comes of a select
 abbrev pub select_outcome : Plain → Option (List ℕ) → LineOutcome
 select_outcome base None = NotYet
-select_outcome base (Some name) = table_outcome name (plain_named base.tables name)
+select_outcome base (Some name) = table_outcome base.pairs name (plain_named base.tables name)
 
 -- the result is a fault of the disk
 abbrev pub is_disk_fault : Option LineOutcome → Bool

@@ -3,6 +3,8 @@ use Rattle.std.specs.Prelude.{ℕ, ◌&&◌, ◌||◌, ◌==◌, List, [], ◌�
 use Rattle.std.specs.List.{list_all, list_any}
 use Rattle.std.specs.Str.{str_eq_ignore_ascii_case}
 use Rattle.sea_cell.specs.Cells.{cell_in}
+use Rattle.sea_links.specs.declared.pair.LinkPair.{LinkPair}
+use Rattle.sea_plain.specs.Linked.{row_shown}
 use Rattle.sea_plain.specs.declared.base.PlainTable.{PlainTable}
 use Rattle.sea_drive.specs.declared.outcome.Answer.{Answer}
 use Rattle.sea_drive.specs.Texts.{stripped}
@@ -41,8 +43,8 @@ abbrev pub select_of : List ℕ → Option (List ℕ)
 select_of text = option_and_then table_word (stripped (codes "SELECT * FROM ") text)
 
 -- the columns' names, and the cells of the first 100 rows in the order of the columns
-abbrev pub answer_of : PlainTable → Answer
-answer_of plain = record {
+abbrev pub answer_of : List LinkPair → PlainTable → Answer
+answer_of pairs plain = record {
   columns = map (λ column. column.name) plain.table.columns;
-  rows = map (λ row. map (cell_in row) plain.table.columns) (take 100 plain.rows);
+  rows = map (λ row. map (cell_in row) plain.table.columns) (map (row_shown pairs plain.table.columns) (take 100 plain.rows));
 }

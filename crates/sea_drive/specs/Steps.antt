@@ -1,5 +1,5 @@
 -- What a line makes of a core, where `told` and `shows` are of its disk, and `clock` is what the clock tells.
-use Rattle.std.specs.Prelude.{◌≡◌, ◌⊎◌, Bool, true, false, ℕ, ◌≤◌, ℤ, List, Option, Some, None, Result}
+use Rattle.std.specs.Prelude.{◌≡◌, ◌⊎◌, true, ℕ, ◌≤◌, ℤ, List, Option, Some, None, Result}
 use Rattle.sea_edge.specs.Minutes.{Tells}
 use Rattle.sea_disk.specs.Shown.{Shown}
 use Rattle.sea_disk.specs.Calls.{Rose}
@@ -9,7 +9,6 @@ use Rattle.sea_plain.specs.declared.base.Plain.{Plain}
 use Rattle.sea_plain.specs.declared.operation.Entry.{Entry}
 use Rattle.sea_plain.specs.declared.operation.Op.{Op}
 use Rattle.sea_plain.specs.declared.refusal.OpRefusal.TheVariants as refusal
-use Rattle.sea_plain.specs.Refusal.{is_built}
 use Rattle.sea_ops.specs.Operations.{op_of}
 use Rattle.sea_core.specs.declared.kept.Core.{Core}
 use Rattle.sea_core.specs.declared.kept.Doubt.{Doubt}
@@ -44,15 +43,10 @@ pub record Edits {D : Type 0} (told : Type 0) (shows : D → Shown) (core : Core
   pub any_moment : told → IsSound shows core → Leaves (shows core.disk) (shows new.disk) (StandsWithOrWithout core entry)
   pub sound : told → IsSound shows core → IsSound shows new
 
--- An operation that is built is edited at a moment that the clock tells.
-abbrev pub EditsOp : {D : Type 0} → Option ℤ → Type 0 → (D → Shown) → Core D → Op → Bool → Option LineOutcome → Core D → Type 0
-EditsOp clock told shows core op true result new = (moment : Moment) × Tells clock moment.0 × Edits told shows core (entry_of moment op) result new
-EditsOp clock told shows core op false result new = Stays core (Some outcome.NotYet) result new
-
--- the line `op`, by the operation that its text is
+-- The line `op`, by the operation that its text is. It is made at a moment that the clock tells.
 abbrev pub EditsText : {D : Type 0} → Option ℤ → Type 0 → (D → Shown) → Core D → Option Op → Option LineOutcome → Core D → Type 0
 EditsText clock told shows core None result new = Stays core (Some (outcome.Refusal refusal.BadOperation)) result new
-EditsText clock told shows core (Some op) result new = EditsOp clock told shows core op (is_built op) result new
+EditsText clock told shows core (Some op) result new = (moment : Moment) × Tells clock moment.0 × Edits told shows core (entry_of moment op) result new
 
 -- A core was started from a disk. At each moment of it the files stood for what they had stood for.
 pub record Starts {D : Type 0} (told : Type 0) (shows : D → Shown) (disk : D) (limits : Limits) (core : Core D) : Type 0 where

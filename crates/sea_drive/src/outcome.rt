@@ -40,6 +40,6 @@ pub enum LineOutcome {
     NotABase,
     /// The line is no UTF-8, or has no form.
     BadLine,
-    /// The line has a form that isn't built yet, or its operation is one that isn't.
+    /// The line has a form that isn't built yet.
     NotYet,
 }

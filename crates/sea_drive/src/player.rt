@@ -165,8 +165,8 @@ impl<D: Disk> Player<D> {
         } = self;
         match play_line(alloc, core, clock, line) {
             Played::On(outcome, core) => {
-                let wanted = wanted || outcome.is_none();
-                let faulted = faulted || is_disk_fault(&outcome);
+                let wanted = has_wanted(wanted, &outcome);
+                let faulted = has_faulted(faulted, &outcome);
                 match write(alloc, sink, &outcome) {
                     None => Turn::On(Player {
                         core,
@@ -182,6 +182,20 @@ impl<D: Disk> Player<D> {
             },
         }
     }
+}
+
+// Some line has met want of memory, this one or one before it.
+fn has_wanted(wanted: bool, outcome: &Option<LineOutcome>) -> bool
+    ensures { result ≡ (wanted || is_none outcome.now) }
+{
+    wanted || outcome.is_none()
+}
+
+// Some line has met a fault of the disk, this one or one before it.
+fn has_faulted(faulted: bool, outcome: &Option<LineOutcome>) -> bool
+    ensures { result ≡ (faulted || is_disk_fault_of outcome.now) }
+{
+    faulted || is_disk_fault(outcome)
 }
 
 // A line met a fault of the disk.

@@ -4,7 +4,7 @@ ghost use Rattle.sea_disk.specs.Calls.{Rose};
 ghost use Rattle.sea_edge.specs.Minutes.{Tells};
 ghost use Rattle.sea_moment.specs.Moment.{IsMoment};
 ghost use Rattle.sea_ops.specs.Operations.{op_of};
-ghost use Rattle.sea_drive.specs.Outcome.{edit_outcome as edit_outcome_of, refusal_outcome as refusal_outcome_of, select_outcome, is_disk_fault};
+ghost use Rattle.sea_drive.specs.Outcome.{edit_outcome as edit_outcome_of, select_outcome, is_disk_fault};
 ghost use Rattle.sea_drive.specs.Select.{select_of};
 ghost use Rattle.sea_drive.specs.Steps.{LineStep, VerbStep, Stays, Edits, EditsText, Counted};
 
@@ -18,7 +18,7 @@ use sea_core::{Core, CoreFault, one_base_at_most};
 use sea_disk::Disk;
 use sea_edge::Clock;
 use sea_ops::{OpFault, op_of_json};
-use sea_plain::{Entry, OpRefusal, Plain, is_built, plain_named};
+use sea_plain::{Entry, OpRefusal, Plain, plain_named};
 use std::alloc::{AllocError, Global};
 
 /// Plays a line on a core.
@@ -85,9 +85,6 @@ fn play_edit<D: Disk, C: Clock>(
             return Some(LineOutcome::Refusal(OpRefusal::BadOperation));
         }
     };
-    if !is_built(&op) {
-        return Some(LineOutcome::NotYet);
-    }
     let moment = now(clock);
     let Ok(user) = Text::copy_of(alloc, "play") else {
         return None;
@@ -123,20 +120,10 @@ fn edit_outcome(answer: Result<u64, CoreFault>) -> Option<LineOutcome>
     match answer {
         Ok(version) => Some(LineOutcome::Version(version)),
         Err(CoreFault::Memory) => None,
-        Err(CoreFault::Op(refusal)) => Some(refusal_outcome(refusal)),
+        Err(CoreFault::Op(refusal)) => Some(LineOutcome::Refusal(refusal)),
         Err(CoreFault::BaseFailed { count }) => Some(LineOutcome::BaseFailed(count)),
         Err(CoreFault::LogFull { size }) => Some(LineOutcome::LogFull(size)),
         Err(CoreFault::DiskFault) => Some(LineOutcome::DiskFault),
-    }
-}
-
-// What comes of a refusal of an operation.
-fn refusal_outcome(refusal: OpRefusal) -> LineOutcome
-    ensures { result ≡ refusal_outcome_of refusal }
-{
-    match refusal {
-        OpRefusal::NotBuilt => LineOutcome::NotYet,
-        refusal => LineOutcome::Refusal(refusal),
     }
 }
 
@@ -160,7 +147,11 @@ fn select(alloc: Global, base: &Plain, text: &str) -> Result<LineOutcome, AllocE
         return Ok(LineOutcome::NotYet);
     };
     match plain_named(base.tables.as_slice(), name) {
-        Some(plain) => Ok(LineOutcome::Rows(answer_of(alloc, plain)?)),
+        Some(plain) => Ok(LineOutcome::Rows(answer_of(
+            alloc,
+            base.pairs.as_slice(),
+            plain,
+        )?)),
         None => Ok(LineOutcome::Refusal(OpRefusal::NoTable {
             name: Text::copy_of(alloc, name)?,
         })),

@@ -15,18 +15,22 @@ pub fn refusal_json(alloc: Global, refusal: &OpRefusal) -> Result<Value, AllocEr
     match refusal {
         OpRefusal::Memory => error_json(alloc, "Memory"),
         OpRefusal::BadOperation => error_json(alloc, "BadOperation"),
-        OpRefusal::NotBuilt => error_json(alloc, "NotYet"),
         OpRefusal::NumbersSpent { counter } => spent_json(alloc, *counter),
         OpRefusal::NoTable { name } => name_error(alloc, "NoTable", name),
         OpRefusal::NoColumn { name } => name_error(alloc, "NoColumn", name),
+        OpRefusal::NoView { name } => name_error(alloc, "NoView", name),
         OpRefusal::NoRow { id } => id_error(alloc, "NoRow", id),
         OpRefusal::BadName { name } => name_error(alloc, "BadName", name),
         OpRefusal::NameTaken { name } => name_error(alloc, "NameTaken", name),
+        OpRefusal::BadFilter { index } => filter_json(alloc, *index),
         OpRefusal::BadCell { column, fault } => cell_json(alloc, column, *fault),
         OpRefusal::DuplicateRow { id } => id_error(alloc, "DuplicateRow", id),
         OpRefusal::TooMany { limit } => many_json(alloc, *limit),
         OpRefusal::RowTooBig { bytes } => big_json(alloc, *bytes),
+        OpRefusal::NotLink { column } => column_error(alloc, column, "NotLink"),
         OpRefusal::NotSelect { column } => column_error(alloc, column, "NotSelect"),
+        OpRefusal::LinkExists { id } => id_error(alloc, "LinkExists", id),
+        OpRefusal::NoLink { id } => id_error(alloc, "NoLink", id),
         OpRefusal::FirstColumn { column } => column_error(alloc, column, "FirstColumn"),
     }
 }
@@ -67,6 +71,12 @@ fn spent_json(alloc: Global, counter: Counter) -> Result<Value, AllocError>
 {
     let word = counter_word(counter);
     json!(in alloc; {"counter": word, "error": "NumbersSpent"})
+}
+
+fn filter_json(alloc: Global, index: u64) -> Result<Value, AllocError>
+    ensures { IfOk result (λ json. view json ≡ refusal_json_of (OpRefusal.BadFilter index)) }
+{
+    json!(in alloc; {"error": "BadFilter", "index": index})
 }
 
 fn cell_json(alloc: Global, column: &Text, fault: CellFault) -> Result<Value, AllocError>

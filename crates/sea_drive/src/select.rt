@@ -8,7 +8,8 @@ ghost use Rattle.sea_drive.specs.Select.{select_of, is_keyword as is_keyword_of,
 use crate::outcome::{Answer, AnswerRow, AnswerRows};
 use crate::texts::stripped;
 use sea_cell::{Column, Duplicate, Row, Shared, Texts, cell_in};
-use sea_plain::PlainTable;
+use sea_links::LinkPair;
+use sea_plain::{PlainTable, rows_shown};
 use sqlite_items::Items;
 use std::alloc::{AllocError, Global};
 
@@ -80,15 +81,21 @@ fn same_word(one: &str, other: &str) -> bool
     one.eq_ignore_ascii_case(other)
 }
 
-/// The columns' names of a table, and the cells of its first 100 rows.
-pub fn answer_of(alloc: Global, plain: &PlainTable) -> Result<Answer, AllocError>
-    ensures { IfOk result (λ answer. answer ≡ answer_for plain.now) }
+/// The columns' names of a table, and the cells of its first 100 rows. Those of link columns come from the pairs of linked
+/// rows.
+pub fn answer_of(
+    alloc: Global,
+    pairs: &[Shared<LinkPair>],
+    plain: &PlainTable,
+) -> Result<Answer, AllocError>
+    ensures { IfOk result (λ answer. answer ≡ answer_for pairs.now plain.now) }
 {
     let columns = plain.table.get().columns.as_slice();
     let rows = front_of(plain.rows.get().as_slice(), 100);
+    let rows = rows_shown(alloc, pairs, columns, rows)?;
     Ok(Answer {
         columns: names_of(alloc, columns)?,
-        rows: cells_of_rows(alloc, columns, rows)?,
+        rows: cells_of_rows(alloc, columns, rows.as_slice())?,
     })
 }
 

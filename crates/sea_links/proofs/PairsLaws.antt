@@ -7,7 +7,7 @@ use Rattle.sea_links.specs.declared.pair.LinkPair.{LinkPair}
 use Rattle.sea_links.specs.Pairs.{is_pair, has_pair, IsWithoutRepeats}
 
 -- where neither of two holds
-neither : (one other : Bool) → (one || other) ≡ false → (one ≡ false) × (other ≡ false)
+pub neither : (one other : Bool) → (one || other) ≡ false → (one ≡ false) × (other ≡ false)
 neither true other h = absurd (true≢false h)
 neither false other h = (refl, h)
 

@@ -9,7 +9,7 @@ use Rattle.sea_cell.specs.declared.keys.RowId.{RowId}
 use Rattle.sea_links.specs.declared.pair.LinkPair.{LinkPair}
 use Rattle.sea_links.specs.Pairs.{is_pair, is_of, side, has_pair, is_id_among, others_of, with_pair, without_pair}
 
-or-true : (b : Bool) → (b || true) ≡ true
+pub or-true : (b : Bool) → (b || true) ≡ true
 or-true true = refl
 or-true false = refl
 
@@ -46,7 +46,7 @@ any-images : {X Y : Type 0} (kept : X → Bool) (f : X → Y) (test : Y → Bool
 any-images kept f test [] = refl
 any-images kept f test (x ∷ xs) = any-step (kept x) f test x (filter kept xs) (list_any (λ y. kept y && test (f y)) xs) (any-images kept f test xs)
 
-any-agree : {X : Type 0} (p q : X → Bool) → ((x : X) → p x ≡ q x) → (xs : List X) → list_any p xs ≡ list_any q xs
+pub any-agree : {X : Type 0} (p q : X → Bool) → ((x : X) → p x ≡ q x) → (xs : List X) → list_any p xs ≡ list_any q xs
 any-agree p q same [] = refl
 any-agree p q same (x ∷ xs) = ap (λ b. b || list_any p xs) (same x) ∙ ap (λ rest. q x || rest) (any-agree p q same xs)
 

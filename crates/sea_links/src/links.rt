@@ -1,33 +1,37 @@
 // The pairs of a base, in the order in which they were added.
-ghost use Rattle.std.specs.Prelude.{◌≡◌, [], length, map, filter, true, false, not, Err, OnOk, OnErr, IfOk, IfErr};
-ghost use Rattle.sea_links.specs.Pairs.{is_of as is_of_row, side as side_of, has_pair, others_of, IsWithoutRepeats, with_pair, is_other_pair as is_other_pair_of, without_pair, is_of_other as is_of_other_row, without_row, is_of_other_link as is_of_other_link_of, without_link};
+ghost use Rattle.std.specs.Prelude.{◌≡◌, [], length, true, false, Err, OnOk, OnErr, IfOk, IfErr};
+ghost use Rattle.sea_links.specs.Pairs.{has_pair, others_of, IsWithoutRepeats, with_pair, without_pair, without_row, without_link};
 ghost use Rattle.sea_links.specs.declared.fault.LinkFault.TheVariants.{LinkExists};
 
 use crate::fault::{LinkFault, NoLink};
-use crate::pair::{LinkPair, LinkPairs, is_of, is_pair, side};
+use crate::pair::LinkPairs;
+use crate::pair_index::{PairIndex, copy_of, pairs_of, sides_of};
 use sea_cell::{Duplicate, Ids, RowId};
 use sqlite_items::Items;
 use std::alloc::{AllocError, Global};
 use std::marker::Model;
 
 /// The pairs of rows that the links of a base join, seen by contracts as the list of them in the order in which they were
-/// added. No pair is in it twice.
+/// added. No pair is in it twice. An index finds the pairs of a row, so that a call about rows takes time by the pairs of
+/// these rows and not by all pairs.
 #[derive(Drop)]
 pub struct Links {
     alloc: Global,
-    pairs: Vec<LinkPair>,
+    index: PairIndex,
 }
 
 impl Model for Links {
     ghost use Rattle.std.specs.Prelude.{List};
     ghost use Rattle.sea_links.specs.declared.pair.LinkPair.{LinkPair};
+    ghost use Rattle.std.specs.Map.{values_of};
     ghost use Rattle.sea_links.specs.Pairs.{IsWithoutRepeats};
+    ghost use Rattle.sea_links.specs.Indexed.{IsIndexed};
 
     ghost Value = { List LinkPair };
 
-    ghost view = { λ it. it.pairs.items };
+    ghost view = { λ it. values_of it.index.pairs.entries };
 
-    ghost invariant = { λ it. IsWithoutRepeats it.pairs.items };
+    ghost invariant = { λ it. IsIndexed it.index × IsWithoutRepeats (values_of it.index.pairs.entries) };
 }
 
 impl Links {
@@ -37,7 +41,7 @@ impl Links {
     {
         Links {
             alloc,
-            pairs: Vec::new(alloc),
+            index: PairIndex::new(alloc),
         }
     }
 
@@ -45,7 +49,7 @@ impl Links {
     pub fn len(&self) -> usize
         ensures { result ≡ length self.now }
     {
-        self.pairs.len()
+        self.index.pairs.len()
     }
 
     /// All pairs, in the order in which they were added. None of them is there twice.
@@ -53,14 +57,14 @@ impl Links {
         ensures all { IfOk result (λ pairs. pairs ≡ self.now) }
         ensures single { IsWithoutRepeats self.now }
     {
-        Ok(Items::from_vec(copies_of(self.alloc, &self.pairs)?))
+        Ok(Items::from_vec(pairs_of(self.alloc, &self.index.pairs)?))
     }
 
     /// Whether the link joins these rows, the first one on its first side. It takes no memory.
     pub fn linked(&self, link: u32, first: &RowId, second: &RowId) -> bool
         ensures { result ≡ has_pair self.now link first.now second.now }
     {
-        has(&self.pairs, link, first, second)
+        self.index.number_of(link, first, second).is_some()
     }
 
     /// The rows that the link joins to a row on its first side, or on its other side, in the order in which they were
@@ -68,14 +72,17 @@ impl Links {
     pub fn of(&self, link: u32, first: bool, id: &RowId) -> Result<Ids, AllocError>
         ensures { IfOk result (λ others. others ≡ others_of link first id.now self.now) }
     {
-        others(self.alloc, &self.pairs, link, first, id)
+        match self.index.numbers(link, first, id) {
+            Some(numbers) => sides_of(self.alloc, &self.index.pairs, numbers, !first),
+            None => Ok(Ids::new(self.alloc)),
+        }
     }
 
     /// Adds a pair at the end.
     ///
     /// # Errors
-    /// `LinkExists` where the link joins these rows already, and `Memory` for want of memory. Both leave the pairs as they
-    /// were.
+    /// `LinkExists` where the link joins these rows already, and `Memory` for want of memory, or of a number after 2^64
+    /// additions. Both leave the pairs as they were.
     pub fn add(&mut self, link: u32, first: &RowId, second: &RowId) -> Result<(), LinkFault>
         ensures ok { OnOk result (self.new ≡ with_pair self.old link first.now second.now) }
         ensures new { OnOk result (has_pair self.old link first.now second.now ≡ false) }
@@ -86,7 +93,7 @@ impl Links {
         if self.linked(link, first, second) {
             return Err(LinkFault::LinkExists);
         }
-        put(self.alloc, &mut self.pairs, link, first, second)?;
+        self.index.put(self.alloc, link, first, second)?;
         Ok(())
     }
 
@@ -100,10 +107,10 @@ impl Links {
         ensures absent { OnErr result (has_pair self.old link first.now second.now ≡ false) }
         ensures err { OnErr result (self.new ≡ self.old) }
     {
-        if !self.linked(link, first, second) {
+        let Some(number) = self.index.number_of(link, first, second) else {
             return Err(NoLink);
-        }
-        keep_other_pairs(&mut self.pairs, link, first, second);
+        };
+        self.index.drop_number(number);
         Ok(())
     }
 
@@ -111,14 +118,14 @@ impl Links {
     pub fn remove_row(&mut self, link: u32, first: bool, id: &RowId)
         ensures { self.new ≡ without_row link first id.now self.old }
     {
-        keep_of_others(&mut self.pairs, link, first, id);
+        self.index.drop_row(link, first, id);
     }
 
-    /// Removes the pairs of a link. It takes no memory.
+    /// Removes the pairs of a link, in one walk over all pairs. It takes no memory.
     pub fn remove_link(&mut self, link: u32)
         ensures { self.new ≡ without_link link self.old }
     {
-        keep_of_other_links(&mut self.pairs, link);
+        self.index.drop_link(link);
     }
 }
 
@@ -126,85 +133,7 @@ impl Duplicate for Links {
     fn duplicate(&self, alloc: Global) -> Result<Links, AllocError> {
         Ok(Links {
             alloc,
-            pairs: copies_of(alloc, &self.pairs)?,
+            index: copy_of(alloc, &self.index.pairs)?,
         })
     }
-}
-
-// Keeps the pairs of other links or rows.
-fn keep_other_pairs(pairs: &mut Vec<LinkPair>, link: u32, first: &RowId, second: &RowId)
-    ensures { pairs.new.items ≡ without_pair pairs.old.items link first.now second.now }
-{
-    pairs.retain(|pair| !is_pair(link, first, second, pair));
-}
-
-// Keeps the pairs of other links, or with other rows on this side.
-fn keep_of_others(pairs: &mut Vec<LinkPair>, link: u32, first: bool, id: &RowId)
-    ensures { pairs.new.items ≡ without_row link first id.now pairs.old.items }
-{
-    pairs.retain(|pair| !is_of(link, first, id, pair));
-}
-
-// Keeps the pairs of other links.
-fn keep_of_other_links(pairs: &mut Vec<LinkPair>, link: u32)
-    ensures { pairs.new.items ≡ without_link link pairs.old.items }
-{
-    pairs.retain(|pair| pair.link != link);
-}
-
-// Copies of pairs, in their order.
-fn copies_of(alloc: Global, pairs: &[LinkPair]) -> Result<Vec<LinkPair>, AllocError>
-    ensures { IfOk result (λ copies. copies.items ≡ pairs.now) }
-{
-    let mut copies = Vec::with_capacity(alloc, pairs.len())?;
-    for pair in pairs {
-        copies.push(pair.duplicate(alloc)?)?;
-    }
-    Ok(copies)
-}
-
-// Puts a pair at the end.
-fn put(
-    alloc: Global,
-    pairs: &mut Vec<LinkPair>,
-    link: u32,
-    first: &RowId,
-    second: &RowId,
-) -> Result<(), AllocError>
-    ensures ok { OnOk result (pairs.new.items ≡ with_pair pairs.old.items link first.now second.now) }
-    ensures err { OnErr result (pairs.new.items ≡ pairs.old.items) }
-{
-    let pair = LinkPair {
-        link,
-        first: first.duplicate(alloc)?,
-        second: second.duplicate(alloc)?,
-    };
-    pairs.push(pair)?;
-    Ok(())
-}
-
-// One of the pairs is of this link and joins these rows.
-fn has(pairs: &[LinkPair], link: u32, first: &RowId, second: &RowId) -> bool
-    ensures { result ≡ has_pair pairs.now link first.now second.now }
-{
-    pairs.iter().any(|pair| is_pair(link, first, second, pair))
-}
-
-// The rows that a link joins to a row on this side.
-fn others(
-    alloc: Global,
-    pairs: &[LinkPair],
-    link: u32,
-    first: bool,
-    id: &RowId,
-) -> Result<Ids, AllocError>
-    ensures { IfOk result (λ others. others ≡ others_of link first id.now pairs.now) }
-{
-    let mut others = Ids::new(alloc);
-    for pair in pairs {
-        if is_of(link, first, id, pair) {
-            others.push(side(!first, pair).duplicate(alloc)?)?;
-        }
-    }
-    Ok(others)
 }

@@ -31,22 +31,22 @@ impl Duplicate for LinkPair {
     }
 }
 
-// The pair is of this link, and joins these rows on these sides.
-pub(crate) fn is_pair(link: u32, first: &RowId, second: &RowId, pair: &LinkPair) -> bool
+/// Whether the pair is of this link, and joins these rows on these sides. It takes no memory.
+pub fn is_pair(link: u32, first: &RowId, second: &RowId, pair: &LinkPair) -> bool
     ensures { result ≡ is_pair_of link first.now second.now pair.now }
 {
     pair.link == link && is_same(&pair.first, first) && is_same(&pair.second, second)
 }
 
-// The pair is of this link, and the row is on this side of it.
-pub(crate) fn is_of(link: u32, first: bool, id: &RowId, pair: &LinkPair) -> bool
+/// Whether the pair is of this link, and the row is on this side of it. It takes no memory.
+pub fn is_of(link: u32, first: bool, id: &RowId, pair: &LinkPair) -> bool
     ensures { result ≡ is_of_row link first id.now pair.now }
 {
     pair.link == link && is_same(side(first, pair), id)
 }
 
-// The row on a side of a pair.
-pub(crate) fn side(first: bool, pair: &LinkPair) -> &RowId
+/// The row on a side of a pair. It takes no memory.
+pub fn side(first: bool, pair: &LinkPair) -> &RowId
     ensures { result.now ≡ side_of first pair.now }
 {
     if first {

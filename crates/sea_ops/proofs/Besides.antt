@@ -11,8 +11,14 @@ use Rattle.sea_ops.specs.Beside.{seen_beside, Shows}
 one_test : (one other : TableNo → List ℕ → Bool) → ((table : TableNo) (id : List ℕ) → one table id ≡ other table id) → one ≡ other
 one_test one other same = λ i. λ table id. same table id i
 
-pub same_seen : (schema : Layout) (counters : Counters) (has : TableNo → List ℕ → Bool) (base : Plain) → Shows schema counters has base → seen_beside schema counters has ≡ seen_of base
-same_seen schema counters has base shows =
-    ap (λ tables. record { tables = tables; counters = counters; has = has }) shows.tables
-    ∙ ap (λ numbers. record { tables = (seen_of base).tables; counters = numbers; has = has }) shows.numbers
-    ∙ ap (λ test. record { tables = (seen_of base).tables; counters = (seen_of base).counters; has = test }) (one_test has (seen_of base).has shows.ids)
+one_relation : (one other : ℕ → List ℕ → List ℕ → Bool) → ((link : ℕ) (first second : List ℕ) → one link first second ≡ other link first second) → one ≡ other
+one_relation one other same = λ i. λ link first second. same link first second i
+
+pub same_seen : (schema : Layout) (counters : Counters) (has : TableNo → List ℕ → Bool) (linked : ℕ → List ℕ → List ℕ → Bool) (count : ℕ) (base : Plain)
+    → Shows schema counters has linked count base → seen_beside schema counters has linked count ≡ seen_of base
+same_seen schema counters has linked count base shows =
+    ap (λ it. record { tables = it; counters = counters; has = has; linked = linked; pair_count = count }) shows.tables
+    ∙ ap (λ it. record { tables = (seen_of base).tables; counters = it; has = has; linked = linked; pair_count = count }) shows.numbers
+    ∙ ap (λ it. record { tables = (seen_of base).tables; counters = (seen_of base).counters; has = it; linked = linked; pair_count = count }) (one_test has (seen_of base).has shows.ids)
+    ∙ ap (λ it. record { tables = (seen_of base).tables; counters = (seen_of base).counters; has = (seen_of base).has; linked = it; pair_count = count }) (one_relation linked (seen_of base).linked shows.links)
+    ∙ ap (λ it. record { tables = (seen_of base).tables; counters = (seen_of base).counters; has = (seen_of base).has; linked = (seen_of base).linked; pair_count = it }) shows.pairs

@@ -6,12 +6,14 @@ use Rattle.sea_plain.specs.declared.base.Plain.{Plain}
 use Rattle.sea_plain.specs.declared.seen.Counters.{Counters}
 use Rattle.sea_plain.specs.Seen.{Seen, seen_of}
 
--- the tables of the schema, the numbers, and the ids that rows have
-abbrev pub seen_beside : Layout → Counters → (TableNo → List ℕ → Bool) → Seen
-seen_beside schema counters has = record { tables = schema.tables; counters = counters; has = has }
+-- the tables of the schema, the numbers, the ids that rows have, which rows are linked, and how many pairs there are
+abbrev pub seen_beside : Layout → Counters → (TableNo → List ℕ → Bool) → (ℕ → List ℕ → List ℕ → Bool) → ℕ → Seen
+seen_beside schema counters has linked count = record { tables = schema.tables; counters = counters; has = has; linked = linked; pair_count = count }
 
--- the schema, the numbers and the ids are those of a plain base
-pub record Shows (schema : Layout) (counters : Counters) (has : TableNo → List ℕ → Bool) (base : Plain) : Type 0 where
+-- the schema, the numbers, the ids and the links are those of a plain base
+pub record Shows (schema : Layout) (counters : Counters) (has : TableNo → List ℕ → Bool) (linked : ℕ → List ℕ → List ℕ → Bool) (count : ℕ) (base : Plain) : Type 0 where
   pub tables : schema.tables ≡ map (λ plain. plain.table) base.tables
   pub numbers : counters ≡ (seen_of base).counters
   pub ids : (table : TableNo) (id : List ℕ) → has table id ≡ (seen_of base).has table id
+  pub links : (link : ℕ) (first second : List ℕ) → linked link first second ≡ (seen_of base).linked link first second
+  pub pairs : count ≡ (seen_of base).pair_count

@@ -55,8 +55,8 @@ pub fn check<R: RowsSeen>(
     schema: &Schema,
     rows: &R,
 ) -> Result<(), OpRefusal>
-    ensures seen { Checks result (seen_refusal (seen_beside schema.now (R.numbers rows.now) (R.has_id rows.now)) op.now) }
-    ensures plain { (base : Plain) → Shows schema.now (R.numbers rows.now) (R.has_id rows.now) base → Checks result (seen_refusal (seen_of base) op.now) }
+    ensures seen { Checks result (seen_refusal (seen_beside schema.now (R.numbers rows.now) (R.has_id rows.now) (R.are_linked rows.now) (R.pair_count rows.now)) op.now) }
+    ensures plain { (base : Plain) → Shows schema.now (R.numbers rows.now) (R.has_id rows.now) (R.are_linked rows.now) (R.pair_count rows.now) base → Checks result (seen_refusal (seen_of base) op.now) }
 {
     check_beside(alloc, op, schema, rows)
 }
@@ -67,7 +67,7 @@ fn check_beside<R: RowsSeen>(
     schema: &Schema,
     rows: &R,
 ) -> Result<(), OpRefusal>
-    ensures { Checks result (seen_refusal (seen_beside schema.now (R.numbers rows.now) (R.has_id rows.now)) op.now) }
+    ensures { Checks result (seen_refusal (seen_beside schema.now (R.numbers rows.now) (R.has_id rows.now) (R.are_linked rows.now) (R.pair_count rows.now)) op.now) }
 {
     check_seen(alloc, op, &Beside { schema, rows })?;
     Ok(())
@@ -81,7 +81,7 @@ struct Beside<'a, R> {
 }
 
 impl<R: RowsSeen> SeenBase for Beside<'_, R> {
-    ghost seen = { λ it. seen_beside it.schema.now (R.numbers it.rows.now) (R.has_id it.rows.now) };
+    ghost seen = { λ it. seen_beside it.schema.now (R.numbers it.rows.now) (R.has_id it.rows.now) (R.are_linked it.rows.now) (R.pair_count it.rows.now) };
 
     fn counters(&self) -> Counters {
         self.rows.counters()
@@ -110,6 +110,14 @@ impl<R: RowsSeen> SeenBase for Beside<'_, R> {
             add_if_there(alloc, &mut found, self.rows, table, id)?;
         }
         Ok(found)
+    }
+
+    fn pair_count(&self) -> usize {
+        self.rows.pairs() as usize
+    }
+
+    fn linked(&self, link: u32, first: &RowId, second: &RowId) -> bool {
+        self.rows.linked(link, first, second)
     }
 }
 

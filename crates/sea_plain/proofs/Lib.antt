@@ -1,5 +1,9 @@
 pub mod Alike
+pub mod Joining
+pub mod Linkless
 pub mod Numbers
 pub mod Repeats
 pub mod Stamps
-pub mod Tables
+pub mod Filtered
+pub mod Found
+pub mod Gone

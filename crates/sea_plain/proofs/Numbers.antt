@@ -1,12 +1,12 @@
 -- Numbers that aren't spent have room for what an operation makes.
-use Rattle.std.proofs.Common.{◌≡◌, ◌⊎◌, ℕ, ◌+◌, ◌^◌, ◌≤◌, length, Bool, true, false, cond, nat_lt, ◌&&◌, Option, Some, None, inl, inr, refl}
+use Rattle.std.proofs.Common.{◌≡◌, ◌⊎◌, ℕ, ◌+◌, ◌^◌, ◌≤◌, Bool, true, false, cond, nat_lt, ◌&&◌, Option, Some, None, inl, inr, refl}
 use Rattle.std.proofs.lemmas.Bool.{ltb-false}
 use Rattle.sea_plain.specs.declared.operation.Op.{Op}
 use Rattle.sea_plain.specs.declared.refusal.Counter.{Counter}
 use Rattle.sea_plain.specs.declared.refusal.Counter.TheVariants as counter
 use Rattle.sea_plain.specs.declared.refusal.OpRefusal.TheVariants.{NumbersSpent}
-use Rattle.sea_plain.specs.Makes.{columns_made, tables_made, rows_made}
-use Rattle.sea_plain.specs.Refusal.{or_else, spent, not_built, numbers_spent, seen_refusal}
+use Rattle.sea_plain.specs.Makes.{columns_made, links_made, tables_made, rows_made}
+use Rattle.sea_plain.specs.Refusal.{or_else, spent, numbers_spent, seen_refusal}
 use Rattle.sea_plain.specs.Seen.{Seen}
 
 -- where neither of two is there
@@ -36,19 +36,22 @@ within name value more last h =
 pub record HasRoom (seen : Seen) (op : Op) : Type 0 where
   pub rows : (rows_made op ≤ 0) ⊎ (seen.counters.row + rows_made op ≤ 2 ^ 62)
   pub tables : (tables_made op ≤ 0) ⊎ (seen.counters.table + tables_made op ≤ 4294967295)
-  pub columns : (length (columns_made op) ≤ 0) ⊎ (seen.counters.column + length (columns_made op) ≤ 4294967295)
+  pub columns : (columns_made op ≤ 0) ⊎ (seen.counters.column + columns_made op ≤ 4294967295)
+  pub links : (links_made op ≤ 0) ⊎ (seen.counters.link + links_made op ≤ 4294967295)
 
 pub has_room : (seen : Seen) (op : Op) → numbers_spent seen op ≡ None → HasRoom seen op
 has_room seen op h =
     let version = neither (spent counter.Version seen.counters.version 1 (2 ^ 62)) _ h in
     let rows = neither (spent counter.NextRow seen.counters.row (rows_made op) (2 ^ 62)) _ version.1 in
     let tables = neither (spent counter.NextTable seen.counters.table (tables_made op) 4294967295) _ rows.1 in
+    let columns = neither (spent counter.NextColumn seen.counters.column (columns_made op) 4294967295) _ tables.1 in
     record {
       rows = within counter.NextRow seen.counters.row (rows_made op) (2 ^ 62) rows.0;
       tables = within counter.NextTable seen.counters.table (tables_made op) 4294967295 tables.0;
-      columns = within counter.NextColumn seen.counters.column (length (columns_made op)) 4294967295 tables.1;
+      columns = within counter.NextColumn seen.counters.column (columns_made op) 4294967295 columns.0;
+      links = within counter.NextLink seen.counters.link (links_made op) 4294967295 columns.1;
     }
 
 -- an operation that isn't refused spends no number
 pub unspent : (seen : Seen) (op : Op) → seen_refusal seen op ≡ None → numbers_spent seen op ≡ None
-unspent seen op h = (neither (numbers_spent seen op) _ (neither (not_built op) _ h).1).0
+unspent seen op h = (neither (numbers_spent seen op) _ h).0

@@ -1,6 +1,6 @@
 -- What an operation names and what it makes, by its form.
-use Rattle.std.specs.Prelude.{ℕ, List, [], ◌∷◌, length, map}
-use Rattle.sea_cell.specs.declared.layout.NewColumn.{NewColumn}
+use Rattle.std.specs.Prelude.{ℕ, List, [], length, map}
+use Rattle.sea_schema.specs.Layout.{keys_of_new, links_of_new}
 use Rattle.sea_plain.specs.declared.operation.NamedCell.{NamedCell}
 use Rattle.sea_plain.specs.declared.operation.OpRow.{OpRow}
 use Rattle.sea_plain.specs.declared.operation.Op.{Op}
@@ -36,11 +36,16 @@ cells_written (AppendRows _ rows) = map (λ row. row.cells) rows
 cells_written (ModifyRows _ changes) = map (λ change. change.cells) changes
 cells_written _ = []
 
--- the columns that it makes
-abbrev pub columns_made : Op → List NewColumn
-columns_made (InsertTable _ columns) = columns
-columns_made (InsertColumn _ column) = column ∷ []
-columns_made _ = []
+-- how many columns it makes: a link column has another side
+abbrev pub columns_made : Op → ℕ
+columns_made (InsertTable _ columns) = length columns
+columns_made (InsertColumn _ column) = keys_of_new column.other
+columns_made _ = 0
+
+-- how many links it makes
+abbrev pub links_made : Op → ℕ
+links_made (InsertColumn _ column) = links_of_new column.other
+links_made _ = 0
 
 -- how many tables it makes
 abbrev pub tables_made : Op → ℕ

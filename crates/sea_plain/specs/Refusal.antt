@@ -10,14 +10,18 @@ use Rattle.sea_cell.specs.Kinds.{has_options}
 use Rattle.sea_cell.specs.Once.{once}
 use Rattle.sea_cell.specs.Sizes.{row_bytes_of}
 use Rattle.sea_cell.specs.declared.keys.Moment.{Moment}
-use Rattle.sea_cell.specs.declared.layout.ColKind.{ColKind}
-use Rattle.sea_cell.specs.declared.layout.ColKind.TheVariants as kind
 use Rattle.sea_cell.specs.declared.layout.Column.{Column}
 use Rattle.sea_cell.specs.declared.layout.NewColumn.{NewColumn}
 use Rattle.sea_cell.specs.declared.values.CellValue.{CellValue}
 use Rattle.sea_cell.specs.declared.conversion.CellFault.{CellFault}
 use Rattle.sea_cell.specs.declared.cellular.Row.{Row}
-use Rattle.sea_schema.specs.Tables.{table_named, column_named}
+use Rattle.sea_cell.specs.declared.keys.RowId.{RowId}
+use Rattle.sea_cell.specs.declared.keys.TableNo.{TableNo}
+use Rattle.sea_cell.specs.declared.layout.LinkEnd.{LinkEnd}
+use Rattle.sea_cell.specs.declared.layout.NewEnd.{NewEnd}
+use Rattle.sea_cell.specs.declared.selection.View.{View}
+use Rattle.sea_schema.specs.Tables.{table_named, column_named, view_named}
+use Rattle.sea_plain.specs.declared.operation.NewFilter.{NewFilter}
 use Rattle.sea_plain.specs.declared.base.Plain.{Plain}
 use Rattle.sea_plain.specs.declared.operation.NamedCell.{NamedCell}
 use Rattle.sea_plain.specs.declared.operation.RowChange.{RowChange}
@@ -28,10 +32,12 @@ use Rattle.sea_plain.specs.declared.refusal.Counter.TheVariants as counter
 use Rattle.sea_plain.specs.declared.refusal.OpRefusal.{OpRefusal}
 use Rattle.sea_plain.specs.declared.refusal.OpRefusal.TheVariants as refusal
 use Rattle.sea_plain.specs.Base.{plain_named}
-use Rattle.sea_plain.specs.Makes.{table_name, ids_named, cells_written, columns_made, tables_made, rows_made, rows_given}
+use Rattle.sea_plain.specs.Makes.{table_name, ids_named, cells_written, columns_made, links_made, tables_made, rows_made, rows_given}
 use Rattle.sea_plain.specs.Names.{is_name, is_id, is_option, first_repeat}
 use Rattle.sea_plain.specs.RowsOf.{ids_of, rows_of, changed_row}
-use Rattle.sea_plain.specs.Seen.{Seen, seen_of, columns_in, has_id}
+use Rattle.sea_plain.specs.Joined.{end_named, texts_of_ids}
+use Rattle.sea_plain.specs.Seen.{Seen, seen_of, columns_in, views_in, has_id}
+use Rattle.sea_plain.specs.Viewed.{filter_of}
 
 -- the first of two
 abbrev pub or_else : {X : Type 0} → Option X → Option X → Option X
@@ -42,26 +48,6 @@ or_else (Some x) later = Some x
 abbrev pub first_at : {X Y : Type 0} → (X → Option Y) → List X → Option Y
 first_at f [] = None
 first_at f (x ∷ xs) = or_else (f x) (first_at f xs)
-
--- ---- what isn't built yet
-
--- a link column
-abbrev pub is_link : ColKind → Bool
-is_link kind.Link = true
-is_link _ = false
-
--- Operations on links and on views are taken by no base yet.
-abbrev pub is_built : Op → Bool
-is_built (InsertColumn _ column) = not (is_link column.kind)
-is_built (AddLink _ _ _ _) = false
-is_built (RemoveLink _ _ _ _) = false
-is_built (InsertView _ _) = false
-is_built (ModifyView _ _) = false
-is_built (DeleteView _ _) = false
-is_built _ = true
-
-abbrev pub not_built : Op → Option OpRefusal
-not_built op = if is_built op then None else Some refusal.NotBuilt
 
 -- ---- NumbersSpent
 
@@ -75,7 +61,8 @@ numbers_spent seen op =
     or_else (spent counter.Version seen.counters.version 1 (2 ^ 62))
     (or_else (spent counter.NextRow seen.counters.row (rows_made op) (2 ^ 62))
     (or_else (spent counter.NextTable seen.counters.table (tables_made op) 4294967295)
-    (spent counter.NextColumn seen.counters.column (length (columns_made op)) 4294967295)))
+    (or_else (spent counter.NextColumn seen.counters.column (columns_made op) 4294967295)
+    (spent counter.NextLink seen.counters.link (links_made op) 4294967295))))
 
 -- ---- NoTable
 
@@ -83,8 +70,14 @@ numbers_spent seen op =
 abbrev pub missing_table : Seen → List ℕ → Option OpRefusal
 missing_table seen name = if is_some (table_named seen.tables name) then None else Some (refusal.NoTable name)
 
+-- the table of the other side of a new link, where there is to be one
+abbrev pub missing_other : Seen → Option NewEnd → Option OpRefusal
+missing_other seen None = None
+missing_other seen (Some other) = missing_table seen other.table
+
 abbrev pub no_table : Seen → Op → Option OpRefusal
 no_table seen (InsertTable _ _) = None
+no_table seen (InsertColumn table column) = or_else (missing_other seen column.other) (missing_table seen table)
 no_table seen op = missing_table seen (table_name op)
 
 -- ---- NoColumn
@@ -97,6 +90,10 @@ missing_column columns name = if is_some (column_named columns name) then None e
 abbrev pub missing_member : List Column → NamedCell → Option OpRefusal
 missing_member columns cell = missing_column columns cell.name
 
+-- a filter of no column
+abbrev pub missing_filtered : List Column → NewFilter → Option OpRefusal
+missing_filtered columns filter = missing_column columns filter.column
+
 -- the first such member of some rows
 unfoldable pub missing_in : List Column → List (List NamedCell) → Option OpRefusal
 missing_in columns rows = first_at (λ cells. first_at (missing_member columns) cells) rows
@@ -105,7 +102,22 @@ abbrev pub no_column : Seen → Op → Option OpRefusal
 no_column seen (RenameColumn table column _) = missing_column (columns_in seen table) column
 no_column seen (DeleteColumn table column) = missing_column (columns_in seen table) column
 no_column seen (AddOptions table column _) = missing_column (columns_in seen table) column
+no_column seen (AddLink table column _ _) = missing_column (columns_in seen table) column
+no_column seen (RemoveLink table column _ _) = missing_column (columns_in seen table) column
+no_column seen (InsertView table view) = first_at (missing_filtered (columns_in seen table)) view.filters
+no_column seen (ModifyView table view) = first_at (missing_filtered (columns_in seen table)) view.filters
 no_column seen op = missing_in (columns_in seen (table_name op)) (cells_written op)
+
+-- ---- NoView
+
+-- a view that isn't there
+abbrev pub missing_view : List View → List ℕ → Option OpRefusal
+missing_view views name = if is_some (view_named views name) then None else Some (refusal.NoView name)
+
+abbrev pub no_view : Seen → Op → Option OpRefusal
+no_view seen (ModifyView table view) = missing_view (views_in seen table) view.name
+no_view seen (DeleteView table name) = missing_view (views_in seen table) name
+no_view seen _ = None
 
 -- ---- NoRow
 
@@ -113,7 +125,21 @@ no_column seen op = missing_in (columns_in seen (table_name op)) (cells_written 
 abbrev pub missing_row : Seen → List ℕ → List ℕ → Option OpRefusal
 missing_row seen table id = if has_id seen table id then None else Some (refusal.NoRow id)
 
+-- a row that isn't in the table of a number
+abbrev pub missing_in_table : Seen → TableNo → RowId → Option OpRefusal
+missing_in_table seen table id = if seen.has table id.0 then None else Some (refusal.NoRow id.0)
+
+-- the first of some rows that isn't at the other end of a link
+abbrev pub missing_others : Seen → List RowId → LinkEnd → Option OpRefusal
+missing_others seen others end = first_at (missing_in_table seen end.table) others
+
+-- the rows that are to be linked in a column, or not any more, and then the row that they are linked to
+abbrev pub missing_linked : Seen → List ℕ → List ℕ → RowId → List RowId → Option OpRefusal
+missing_linked seen table column row others = or_else (option_and_then (missing_others seen others) (end_named (columns_in seen table) column)) (missing_row seen table row.0)
+
 abbrev pub no_row : Seen → Op → Option OpRefusal
+no_row seen (AddLink table column row others) = missing_linked seen table column row others
+no_row seen (RemoveLink table column row others) = missing_linked seen table column row others
 no_row seen op = first_at (missing_row seen (table_name op)) (ids_named op)
 
 -- ---- BadName
@@ -130,9 +156,14 @@ bad_id id = if is_id id then None else Some (refusal.BadName id)
 abbrev pub bad_option : List ℕ → Option OpRefusal
 bad_option option = if is_option option then None else Some (refusal.BadName option)
 
--- a new column's name, and then its options
+-- the name of a new link's other side, where there is to be one
+abbrev pub bad_other : Option NewEnd → Option OpRefusal
+bad_other None = None
+bad_other (Some other) = bad_text other.name
+
+-- a new column's name, and then its options or the name of its other side
 abbrev pub bad_column : NewColumn → Option OpRefusal
-bad_column column = or_else (bad_text column.name) (first_at bad_option column.options)
+bad_column column = or_else (bad_text column.name) (or_else (first_at bad_option column.options) (bad_other column.other))
 
 abbrev pub bad_name : Op → Option OpRefusal
 bad_name (InsertTable table columns) = or_else (first_at bad_column columns) (bad_text table)
@@ -141,6 +172,7 @@ bad_name (InsertColumn _ column) = bad_column column
 bad_name (RenameColumn _ _ to) = bad_text to
 bad_name (AddOptions _ _ options) = first_at bad_option options
 bad_name (AppendRows _ rows) = first_at (λ row. option_and_then bad_id row.id) rows
+bad_name (InsertView _ view) = bad_text view.name
 bad_name _ = None
 
 -- ---- NameTaken
@@ -157,13 +189,35 @@ taken_column columns name = if is_some (column_named columns name) then Some (re
 abbrev pub unused : List ℕ → Bool
 unused text = false
 
+-- the name of a view that is there
+abbrev pub taken_view : List View → List ℕ → Option OpRefusal
+taken_view views name = if is_some (view_named views name) then Some (refusal.NameTaken name) else None
+
+-- the name of a new link's other side in its table
+abbrev pub taken_other : Seen → Option NewEnd → Option OpRefusal
+taken_other seen None = None
+taken_other seen (Some other) = taken_column (columns_in seen other.table) other.name
+
 -- a thing's own name counts as in use
 abbrev pub name_taken : Seen → Op → Option OpRefusal
 name_taken seen (InsertTable table columns) = or_else (option_map refusal.NameTaken (first_repeat unused [] (map (λ column. column.name) columns))) (taken_table seen table)
 name_taken seen (RenameTable _ to) = taken_table seen to
-name_taken seen (InsertColumn table column) = taken_column (columns_in seen table) column.name
+name_taken seen (InsertColumn table column) = or_else (taken_column (columns_in seen table) column.name) (taken_other seen column.other)
 name_taken seen (RenameColumn table _ to) = taken_column (columns_in seen table) to
+name_taken seen (InsertView table view) = taken_view (views_in seen table) view.name
 name_taken seen _ = None
+
+-- ---- BadFilter
+
+-- the place of the first filter that doesn't fit its column, counted from here
+abbrev pub bad_filter_from : ℕ → List Column → List NewFilter → Option OpRefusal
+bad_filter_from place columns [] = None
+bad_filter_from place columns (filter ∷ filters) = if is_some (filter_of columns filter) then bad_filter_from (place + 1) columns filters else Some (refusal.BadFilter place)
+
+abbrev pub bad_filter : Seen → Op → Option OpRefusal
+bad_filter seen (InsertView table view) = bad_filter_from 0 (columns_in seen table) view.filters
+bad_filter seen (ModifyView table view) = bad_filter_from 0 (columns_in seen table) view.filters
+bad_filter seen _ = None
 
 -- ---- BadCell
 
@@ -203,12 +257,22 @@ many_options options = above_limit 500 (length (once options))
 abbrev pub options_in : List Column → List ℕ → List (List ℕ)
 options_in columns name = option_map_or (λ column. column.options) (column_named columns name) []
 
--- 1,000 rows or ids of an operation, 64 tables of a base, 200 columns of a table
+-- one column more in the table of a new link's other side
+abbrev pub many_columns_there : Seen → Option NewEnd → Option OpRefusal
+many_columns_there seen None = None
+many_columns_there seen (Some other) = above_limit 200 (length (columns_in seen other.table) + 1)
+
+-- 1,000 rows or ids of an operation, 64 tables of a base, 200 columns and 50 views of a table, 20 filters of a view, and
+-- 200,000 pairs of linked rows
 abbrev pub too_many : Seen → Op → Option OpRefusal
 too_many seen (InsertTable _ columns) = or_else (above_limit 64 (length seen.tables + 1)) (or_else (above_limit 200 (length columns)) (first_at (λ column. many_options column.options) columns))
-too_many seen (InsertColumn table column) = or_else (above_limit 200 (length (columns_in seen table) + 1)) (many_options column.options)
+too_many seen (InsertColumn table column) = or_else (above_limit 200 (length (columns_in seen table) + 1)) (or_else (many_columns_there seen column.other) (many_options column.options))
 too_many seen (AddOptions table column options) = many_options (options_in (columns_in seen table) column ++ options)
 too_many seen (AppendRows _ rows) = above_limit 1000 (length rows)
+too_many seen (InsertView table view) = or_else (above_limit 50 (length (views_in seen table) + 1)) (above_limit 20 (length view.filters))
+too_many seen (ModifyView _ view) = above_limit 20 (length view.filters)
+too_many seen (AddLink _ _ _ others) = or_else (above_limit 1000 (length others)) (above_limit 200000 (seen.pair_count + length others))
+too_many seen (RemoveLink _ _ _ others) = above_limit 1000 (length others)
 too_many seen op = above_limit 1000 (length (ids_named op))
 
 -- ---- RowTooBig
@@ -227,6 +291,45 @@ some_moment = record { 0 = pos 0 }
 
 abbrev pub large_new_row : Seen → Op → Option OpRefusal
 large_new_row seen op = first_at large_row (new_rows seen some_moment op)
+
+-- ---- NotLink, LinkExists and NoLink
+
+-- a column that is no link column
+abbrev pub no_end : List Column → List ℕ → Option OpRefusal
+no_end columns name = if is_some (end_named columns name) then None else Some (refusal.NotLink name)
+
+abbrev pub not_link : Seen → Op → Option OpRefusal
+not_link seen (AddLink table column _ _) = no_end (columns_in seen table) column
+not_link seen (RemoveLink table column _ _) = no_end (columns_in seen table) column
+not_link seen _ = None
+
+-- the row of this id is linked to a row at this end
+abbrev pub is_linked : Seen → LinkEnd → RowId → List ℕ → Bool
+is_linked seen end row id = if end.first then seen.linked end.link row.0 id else seen.linked end.link id row.0
+
+abbrev pub is_not_linked : Seen → LinkEnd → RowId → List ℕ → Bool
+is_not_linked seen end row id = not (is_linked seen end row id)
+
+-- linked, or not, as is asked
+abbrev pub is_so_linked : Bool → Seen → LinkEnd → RowId → List ℕ → Bool
+is_so_linked true = is_linked
+is_so_linked false = is_not_linked
+
+-- the first row that is linked already, or that stands twice
+abbrev pub linked_already : Seen → RowId → List RowId → LinkEnd → Option OpRefusal
+linked_already seen row others end = option_map refusal.LinkExists (first_repeat (is_linked seen end row) [] (texts_of_ids others))
+
+abbrev pub link_exists : Seen → Op → Option OpRefusal
+link_exists seen (AddLink table column row others) = option_and_then (linked_already seen row others) (end_named (columns_in seen table) column)
+link_exists seen _ = None
+
+-- the first row that isn't linked, or that stands twice
+abbrev pub not_linked : Seen → RowId → List RowId → LinkEnd → Option OpRefusal
+not_linked seen row others end = option_map refusal.NoLink (first_repeat (is_not_linked seen end row) [] (texts_of_ids others))
+
+abbrev pub no_link : Seen → Op → Option OpRefusal
+no_link seen (RemoveLink table column row others) = option_and_then (not_linked seen row others) (end_named (columns_in seen table) column)
+no_link seen _ = None
 
 -- ---- NotSelect and FirstColumn
 
@@ -250,19 +353,23 @@ first_column seen _ = None
 -- aside it is the first of all.
 abbrev pub seen_refusal : Seen → Op → Option OpRefusal
 seen_refusal seen op =
-    or_else (not_built op)
-    (or_else (numbers_spent seen op)
+    or_else (numbers_spent seen op)
     (or_else (no_table seen op)
     (or_else (no_column seen op)
+    (or_else (no_view seen op)
     (or_else (no_row seen op)
     (or_else (bad_name op)
     (or_else (name_taken seen op)
+    (or_else (bad_filter seen op)
     (or_else (bad_cell seen op)
     (or_else (duplicate_row seen op)
     (or_else (too_many seen op)
     (or_else (large_new_row seen op)
+    (or_else (not_link seen op)
     (or_else (not_select seen op)
-    (first_column seen op))))))))))))
+    (or_else (link_exists seen op)
+    (or_else (no_link seen op)
+    (first_column seen op))))))))))))))))
 
 -- a changed row that is too big
 abbrev pub large_change : List Row → List Column → Moment → RowChange → Option OpRefusal

@@ -2,7 +2,8 @@
 ghost use Rattle.std.specs.Prelude.{◌≡◌, IfOk};
 ghost use Rattle.sea_plain.specs.Base.{empty_base};
 
-use sea_cell::{Duplicate, RowId, Rows, Shared};
+use sea_cell::{Duplicate, Rows, Shared};
+use sea_links::LinkPair;
 use sea_schema::Table;
 use sqlite_items::Items;
 use std::alloc::{AllocError, Global};
@@ -17,16 +18,8 @@ pub struct PlainTable {
 /// The tables of a base in order of number.
 pub type PlainTables = Items<PlainTable>;
 
-/// Two rows that a link joins: the row on the link's first side, and the one on its other side.
-#[derive(Drop)]
-pub struct LinkPair {
-    pub link: u32,
-    pub first: RowId,
-    pub second: RowId,
-}
-
-/// The link pairs of a base in the order in which they were added.
-pub type LinkPairs = Items<LinkPair>;
+/// The pairs of linked rows of a base in the order in which they were added. A copy shares them.
+pub type PlainPairs = Items<Shared<LinkPair>>;
 
 /// A plain base: how many operations it has taken, the numbers that come next, its tables and its link pairs.
 #[derive(Drop)]
@@ -37,7 +30,7 @@ pub struct Plain {
     pub next_column: u32,
     pub next_link: u32,
     pub tables: PlainTables,
-    pub pairs: LinkPairs,
+    pub pairs: PlainPairs,
 }
 
 impl Plain {
@@ -62,16 +55,6 @@ impl Duplicate for PlainTable {
         Ok(PlainTable {
             table: self.table.duplicate(alloc)?,
             rows: self.rows.duplicate(alloc)?,
-        })
-    }
-}
-
-impl Duplicate for LinkPair {
-    fn duplicate(&self, alloc: Global) -> Result<LinkPair, AllocError> {
-        Ok(LinkPair {
-            link: self.link,
-            first: self.first.duplicate(alloc)?,
-            second: self.second.duplicate(alloc)?,
         })
     }
 }

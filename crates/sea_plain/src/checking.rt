@@ -6,25 +6,27 @@ ghost use Rattle.std.specs.Option.{option_copied};
 ghost use Rattle.sea_plain.specs.Checks.{Checks};
 ghost use Rattle.sea_plain.specs.Makes.{cells_written};
 ghost use Rattle.sea_plain.specs.Names.{first_repeat as first_repeat_of};
-ghost use Rattle.sea_plain.specs.Refusal.{seen_refusal, is_built as is_built_of, not_built, is_link as is_link_of, spent, numbers_spent, missing_table, no_table as no_table_in, missing_column, missing_member as missing_member_of, missing_in, no_column as no_column_in, bad_text, bad_id, bad_option as bad_option_in, bad_column as bad_column_in, bad_name as bad_name_in, unused, taken_table, taken_column, name_taken as name_taken_in, refused_cell, refused_in, bad_cell as bad_cell_in, above_limit, many_options as many_options_in, options_in as options_in_of, too_many as too_many_in, large_row, new_rows as new_rows_of, some_moment, not_select as not_select_in, is_first as is_first_of, first_column as first_column_in, large_change as large_change_in, large_changed_row, first_at};
+ghost use Rattle.sea_plain.specs.Refusal.{seen_refusal, spent, numbers_spent, missing_table, no_table as no_table_in, missing_other, missing_filtered, missing_column, missing_member as missing_member_of, missing_in, no_column as no_column_in, bad_text, bad_id, bad_option as bad_option_in, bad_column as bad_column_in, bad_other as bad_other_in, taken_other, many_columns_there as many_columns_there_in, bad_name as bad_name_in, unused, taken_table, taken_column, name_taken as name_taken_in, refused_cell, refused_in, bad_cell as bad_cell_in, above_limit, many_options as many_options_in, options_in as options_in_of, too_many as too_many_in, large_row, new_rows as new_rows_of, some_moment, not_select as not_select_in, is_first as is_first_of, first_column as first_column_in, large_change as large_change_in, large_changed_row, first_at};
 ghost use Rattle.sea_plain.specs.RowsOf.{changed_row as changed_row_of};
 ghost use Rattle.sea_plain.specs.Seen.{columns_in as columns_in_seen};
 
 use crate::base::Plain;
 use crate::changed::changed_row;
 use crate::ids::{duplicate_row, no_row};
-use crate::lookup::{column_named, plain_named};
+use crate::linking::{link_exists, no_link, not_link};
+use crate::lookup::plain_named;
 use crate::made::rows_of;
-use crate::makes::{WritesCells, columns_made, rows_made, table_name, tables_made};
+use crate::makes::{WritesCells, columns_made, links_made, rows_made, table_name, tables_made};
 use crate::names::{first_repeat, is_id, is_name, is_option};
-use crate::operation::{NamedCell, Op, OpRow, RowChange};
+use crate::operation::{NamedCell, NewFilter, NewView, Op, OpRow, RowChange};
 use crate::refusal::{Counter, OpRefusal};
 use crate::seen::SeenBase;
+use crate::viewing::{bad_filter, no_view, view_taken, views_in};
 use sea_cell::{
-    CellFault, ColKind, Column, Duplicate, Moment, NewColumn, Row, Shared, Text, Texts,
+    CellFault, Column, Duplicate, Moment, NewColumn, NewEnd, Row, Shared, Text, Texts,
     cell_of_json, has_options, row_bytes, without_repeats,
 };
-use sea_schema::more_options;
+use sea_schema::{column_named, more_options};
 use std::alloc::Global;
 use std::collections::BTreeSet;
 
@@ -49,62 +51,24 @@ pub fn new_rows<S: SeenBase>(alloc: Global, op: &Op, seen: &S) -> Result<Vec<Row
     ensures refused { Checks result (seen_refusal (S.seen seen.now) op.now) }
     ensures made { IfOk result (λ rows. rows.items ≡ new_rows_of (S.seen seen.now) some_moment op.now) }
 {
-    built(op)?;
     numbers(op, seen)?;
     no_table(alloc, op, seen)?;
     no_column(alloc, op, seen)?;
+    no_view(alloc, op, seen)?;
     no_row(alloc, op, seen)?;
     bad_name(alloc, op)?;
     name_taken(alloc, op, seen)?;
+    bad_filter(alloc, op, seen)?;
     let rows = bad_cell(alloc, op, seen)?;
     duplicate_row(alloc, op, seen)?;
     too_many(alloc, op, seen)?;
     large_row_in(rows.as_slice())?;
+    not_link(alloc, op, seen)?;
     not_select(alloc, op, seen)?;
+    link_exists(alloc, op, seen)?;
+    no_link(alloc, op, seen)?;
     first_column(alloc, op, seen)?;
     Ok(rows)
-}
-
-// The operation is one that is built.
-fn built(op: &Op) -> Result<(), OpRefusal>
-    ensures { Checks result (not_built op.now) }
-{
-    if is_built(op) {
-        return Ok(());
-    }
-    Err(OpRefusal::NotBuilt)
-}
-
-/// Whether bases take such operations yet: those on tables, rows, and columns that are no link columns.
-pub fn is_built(op: &Op) -> bool
-    ensures { result ≡ is_built_of op.now }
-{
-    match op {
-        Op::InsertColumn { table: _, column } => !is_link(column.kind),
-        Op::AddLink {
-            table: _,
-            column: _,
-            row: _,
-            others: _,
-        } => false,
-        Op::RemoveLink {
-            table: _,
-            column: _,
-            row: _,
-            others: _,
-        } => false,
-        Op::InsertView { table: _, view: _ } => false,
-        Op::ModifyView { table: _, view: _ } => false,
-        Op::DeleteView { table: _, view: _ } => false,
-        _ => true,
-    }
-}
-
-// The type of links.
-fn is_link(kind: ColKind) -> bool
-    ensures { result ≡ is_link_of kind }
-{
-    matches!(kind, ColKind::Link)
 }
 
 // No counter rises above its last value.
@@ -121,13 +85,15 @@ fn numbers<S: SeenBase>(op: &Op, seen: &S) -> Result<(), OpRefusal>
         tables,
         LAST_KEY,
     )?;
-    let columns = columns_made(op).len() as u64;
+    let columns = columns_made(op) as u64;
     room_for(
         Counter::NextColumn,
         u64::from(counters.column),
         columns,
         LAST_KEY,
     )?;
+    let links = u64::from(links_made(op));
+    room_for(Counter::NextLink, u64::from(counters.link), links, LAST_KEY)?;
     Ok(())
 }
 
@@ -153,7 +119,26 @@ fn no_table<S: SeenBase>(alloc: Global, op: &Op, seen: &S) -> Result<(), OpRefus
             table: _,
             columns: _,
         } => Ok(()),
+        Op::InsertColumn { table, column } => {
+            is_table_of_other(alloc, &column.other, seen)?;
+            is_table(alloc, table, seen)?;
+            Ok(())
+        }
         _ => is_table(alloc, table_name(op), seen),
+    }
+}
+
+// The table of a new link's other side is there.
+fn is_table_of_other<S: SeenBase>(
+    alloc: Global,
+    other: &Option<NewEnd>,
+    seen: &S,
+) -> Result<(), OpRefusal>
+    ensures { Checks result (missing_other (S.seen seen.now) other.now) }
+{
+    match other {
+        Some(other) => is_table(alloc, &other.table, seen),
+        None => Ok(()),
     }
 }
 
@@ -168,8 +153,8 @@ fn is_table<S: SeenBase>(alloc: Global, name: &Text, seen: &S) -> Result<(), OpR
     })
 }
 
-// The columns of the table of a name, or none.
-fn columns_in<'a, S: SeenBase>(seen: &'a S, name: &str) -> &'a [Column]
+/// The columns of the table of a name, or none.
+pub fn columns_in<'a, S: SeenBase>(seen: &'a S, name: &str) -> &'a [Column]
     ensures { result.now ≡ columns_in_seen (S.seen seen.now) name.now }
 {
     match seen.table(name) {
@@ -195,8 +180,46 @@ fn no_column<S: SeenBase>(alloc: Global, op: &Op, seen: &S) -> Result<(), OpRefu
             column,
             options: _,
         } => is_column(alloc, columns, column),
+        Op::AddLink {
+            table: _,
+            column,
+            row: _,
+            others: _,
+        } => is_column(alloc, columns, column),
+        Op::RemoveLink {
+            table: _,
+            column,
+            row: _,
+            others: _,
+        } => is_column(alloc, columns, column),
+        Op::InsertView { table: _, view } => is_view_of(alloc, columns, view),
+        Op::ModifyView { table: _, view } => is_view_of(alloc, columns, view),
         _ => are_columns(alloc, columns, op),
     }
+}
+
+// The column of each filter of a view is there.
+fn is_view_of(alloc: Global, columns: &[Column], view: &NewView) -> Result<(), OpRefusal>
+    ensures { Checks result (first_at (missing_filtered columns.now) view.now.filters) }
+{
+    are_filtered(alloc, columns, view.filters.as_slice())?;
+    Ok(())
+}
+
+fn are_filtered(alloc: Global, columns: &[Column], filters: &[NewFilter]) -> Result<(), OpRefusal>
+    ensures { Checks result (first_at (missing_filtered columns.now) filters.now) }
+{
+    for filter in filters {
+        is_filtered(alloc, columns, filter)?;
+    }
+    Ok(())
+}
+
+fn is_filtered(alloc: Global, columns: &[Column], filter: &NewFilter) -> Result<(), OpRefusal>
+    ensures { Checks result (missing_filtered columns.now filter.now) }
+{
+    is_column(alloc, columns, &filter.column)?;
+    Ok(())
 }
 
 fn is_column(alloc: Global, columns: &[Column], name: &Text) -> Result<(), OpRefusal>
@@ -275,6 +298,7 @@ fn bad_name(alloc: Global, op: &Op) -> Result<(), OpRefusal>
             options,
         } => bad_options(alloc, options.as_slice()),
         Op::AppendRows { table: _, rows } => bad_row_id(alloc, rows.as_slice()),
+        Op::InsertView { table: _, view } => names_something(alloc, &view.name),
         _ => Ok(()),
     }
 }
@@ -293,7 +317,18 @@ fn bad_column(alloc: Global, column: &NewColumn) -> Result<(), OpRefusal>
 {
     names_something(alloc, &column.name)?;
     bad_options(alloc, column.options.as_slice())?;
+    bad_other(alloc, &column.other)?;
     Ok(())
+}
+
+// The name of a new link's other side.
+fn bad_other(alloc: Global, other: &Option<NewEnd>) -> Result<(), OpRefusal>
+    ensures { Checks result (bad_other_in other.now) }
+{
+    match other {
+        Some(other) => names_something(alloc, &other.name),
+        None => Ok(()),
+    }
 }
 
 fn bad_options(alloc: Global, options: &[Text]) -> Result<(), OpRefusal>
@@ -362,14 +397,33 @@ fn name_taken<S: SeenBase>(alloc: Global, op: &Op, seen: &S) -> Result<(), OpRef
         }
         Op::RenameTable { table: _, to } => table_taken(alloc, to, seen),
         Op::InsertColumn { table, column } => {
-            column_taken(alloc, columns_in(seen, table.as_str()), &column.name)
+            column_taken(alloc, columns_in(seen, table.as_str()), &column.name)?;
+            other_taken(alloc, &column.other, seen)?;
+            Ok(())
         }
         Op::RenameColumn {
             table,
             column: _,
             to,
         } => column_taken(alloc, columns_in(seen, table.as_str()), to),
+        Op::InsertView { table, view } => {
+            view_taken(alloc, views_in(seen, table.as_str()), &view.name)
+        }
         _ => Ok(()),
+    }
+}
+
+// The name of a new link's other side isn't in use in its table.
+fn other_taken<S: SeenBase>(
+    alloc: Global,
+    other: &Option<NewEnd>,
+    seen: &S,
+) -> Result<(), OpRefusal>
+    ensures { Checks result (taken_other (S.seen seen.now) other.now) }
+{
+    match other {
+        Some(other) => column_taken(alloc, columns_in(seen, other.table.as_str()), &other.name),
+        None => Ok(()),
     }
 }
 
@@ -476,6 +530,7 @@ fn too_many<S: SeenBase>(alloc: Global, op: &Op, seen: &S) -> Result<(), OpRefus
         }
         Op::InsertColumn { table, column } => {
             below(200, columns_in(seen, table.as_str()).len())?;
+            many_columns_there(&column.other, seen)?;
             many_options(alloc, column.options.as_slice())?;
             Ok(())
         }
@@ -490,7 +545,39 @@ fn too_many<S: SeenBase>(alloc: Global, op: &Op, seen: &S) -> Result<(), OpRefus
         Op::AppendRows { table: _, rows } => within(1000, rows.len()),
         Op::ModifyRows { table: _, rows } => within(1000, rows.len()),
         Op::DeleteRows { table: _, ids } => within(1000, ids.len()),
+        Op::InsertView { table, view } => {
+            below(50, views_in(seen, table.as_str()).len())?;
+            within(20, view.filters.len())?;
+            Ok(())
+        }
+        Op::ModifyView { table: _, view } => within(20, view.filters.len()),
+        Op::AddLink {
+            table: _,
+            column: _,
+            row: _,
+            others,
+        } => {
+            within(1000, others.len())?;
+            within_more(200_000, seen.pair_count(), others.len())?;
+            Ok(())
+        }
+        Op::RemoveLink {
+            table: _,
+            column: _,
+            row: _,
+            others,
+        } => within(1000, others.len()),
         _ => Ok(()),
+    }
+}
+
+// One column more in the table of a new link's other side.
+fn many_columns_there<S: SeenBase>(other: &Option<NewEnd>, seen: &S) -> Result<(), OpRefusal>
+    ensures { Checks result (many_columns_there_in (S.seen seen.now) other.now) }
+{
+    match other {
+        Some(other) => below(200, columns_in(seen, other.table.as_str()).len()),
+        None => Ok(()),
     }
 }
 
@@ -502,6 +589,16 @@ fn within(limit: u32, count: usize) -> Result<(), OpRefusal>
         return Err(OpRefusal::TooMany { limit });
     }
     Ok(())
+}
+
+// No more than the limit with some more.
+fn within_more(limit: u32, count: usize, more: usize) -> Result<(), OpRefusal>
+    ensures { Checks result (above_limit limit (count + more)) }
+{
+    match count.checked_add(more) {
+        Some(sum) => within(limit, sum),
+        None => Err(OpRefusal::TooMany { limit }),
+    }
 }
 
 // No more than the limit with one more.

@@ -8,6 +8,7 @@ ghost use Rattle.sea_plain.specs.Names.{first_repeat as first_repeat_of};
 ghost use Rattle.sea_plain.specs.Refusal.{numbers_spent, missing_row, no_row as no_row_in, duplicate_row as duplicate_row_in, unused, first_at};
 ghost use Rattle.sea_plain.specs.Seen.{has_id as has_id_in};
 
+use crate::linking::are_linked_rows;
 use crate::made::ids_of;
 use crate::makes::Named;
 use crate::names::first_repeat;
@@ -29,6 +30,18 @@ pub fn no_row<S: SeenBase>(alloc: Global, op: &Op, seen: &S) -> Result<(), OpRef
             are_rows(alloc, table.as_str(), ids.as_slice(), seen)
         }
         Op::DeleteRows { table, ids } => are_rows(alloc, table.as_str(), ids.as_slice(), seen),
+        Op::AddLink {
+            table,
+            column,
+            row,
+            others,
+        } => are_linked_rows(alloc, table, column, row, others.as_slice(), seen),
+        Op::RemoveLink {
+            table,
+            column,
+            row,
+            others,
+        } => are_linked_rows(alloc, table, column, row, others.as_slice(), seen),
         _ => Ok(()),
     }
 }
@@ -58,7 +71,13 @@ fn are_rows<S: SeenBase>(
     }
 }
 
-fn is_row<S: SeenBase>(alloc: Global, table: &str, id: &RowId, seen: &S) -> Result<(), OpRefusal>
+/// The row of the id is in the table of the name.
+pub fn is_row<S: SeenBase>(
+    alloc: Global,
+    table: &str,
+    id: &RowId,
+    seen: &S,
+) -> Result<(), OpRefusal>
     ensures { Checks result (missing_row (S.seen seen.now) table.now id.now.0) }
 {
     if has_id(table, id, seen) {

@@ -10,8 +10,12 @@ mod apply;
 mod base;
 mod changed;
 mod checking;
+mod ends;
 mod ids;
+mod joined;
 mod laws;
+mod linked;
+mod linking;
 mod lookup;
 mod made;
 mod makes;
@@ -19,13 +23,17 @@ mod names;
 mod operation;
 mod refusal;
 mod seen;
+mod tables;
 #[cfg(test)]
 mod tests;
+mod viewed;
+mod viewing;
 
 pub use apply::{apply_plain, run_plain};
-pub use base::{LinkPair, LinkPairs, Plain, PlainTable, PlainTables};
-pub use checking::{check, is_built};
+pub use base::{Plain, PlainPairs, PlainTable, PlainTables};
+pub use checking::check;
 pub use laws::schemas_change_alike;
+pub use linked::{TableRows, Tables, rows_shown, tables_of};
 pub use lookup::plain_named;
 pub use operation::{
     Entries, Entry, NamedCell, NamedCells, NewFilter, NewFilters, NewView, Op, OpRow, OpRows,

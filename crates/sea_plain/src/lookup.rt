@@ -1,11 +1,12 @@
-// Tables and columns by name.
+// Tables and the ends of links by name.
 ghost use Rattle.std.specs.Prelude.{◌≡◌};
 ghost use Rattle.std.specs.Option.{option_copied};
-ghost use Rattle.sea_schema.specs.Tables.{column_named as column_named_of};
 ghost use Rattle.sea_plain.specs.Base.{plain_named as plain_named_of};
+ghost use Rattle.sea_plain.specs.Joined.{end_named as end_named_of};
 
 use crate::base::PlainTable;
-use sea_cell::Column;
+use sea_cell::{Column, LinkEnd};
+use sea_schema::column_named;
 
 /// The table of a name with its rows, where there is one.
 pub fn plain_named<'a>(tables: &'a [PlainTable], name: &str) -> Option<&'a PlainTable>
@@ -16,9 +17,12 @@ pub fn plain_named<'a>(tables: &'a [PlainTable], name: &str) -> Option<&'a Plain
         .find(|plain| plain.table.get().name.as_str() == name)
 }
 
-/// The column of a name, where there is one.
-pub fn column_named<'a>(columns: &'a [Column], name: &str) -> Option<&'a Column>
-    ensures { option_copied result ≡ column_named_of columns.now name.now }
+/// The link's end in the column of a name, where that is a link column.
+pub fn end_named(columns: &[Column], name: &str) -> Option<LinkEnd>
+    ensures { result ≡ end_named_of columns.now name.now }
 {
-    columns.iter().find(|column| column.name.as_str() == name)
+    match column_named(columns, name) {
+        Some(column) => column.other,
+        None => None,
+    }
 }

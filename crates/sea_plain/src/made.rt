@@ -4,12 +4,12 @@ ghost use Rattle.sea_plain.specs.Checks.{Checks};
 ghost use Rattle.sea_plain.specs.Refusal.{first_at, refused_cell, refused_in, some_moment};
 ghost use Rattle.sea_plain.specs.RowsOf.{id_of as id_for, ids_of as ids_for, with_member as with_member_of, cells_of as cells_for, row_of as row_for, rows_of as rows_for, stamped as stamped_of};
 
-use crate::lookup::column_named;
 use crate::operation::{NamedCell, OpRow};
 use crate::refusal::OpRefusal;
 use sea_cell::{
     CellFault, Cells, Column, Duplicate, Ids, Moment, Row, RowId, Rows, Shared, Text, cell_of_json,
 };
+use sea_schema::column_named;
 use sqlite_items::Items;
 use std::alloc::{AllocError, Global};
 
@@ -68,12 +68,7 @@ fn push(rows: &mut Vec<Row>, row: Row) -> Result<(), AllocError>
 }
 
 // A new row.
-fn row_of(
-    alloc: Global,
-    columns: &[Column],
-    number: u64,
-    row: &OpRow,
-) -> Result<Row, OpRefusal>
+fn row_of(alloc: Global, columns: &[Column], number: u64, row: &OpRow) -> Result<Row, OpRefusal>
     ensures refused { Checks result (first_at (refused_cell columns.now) row.now.cells) }
     ensures made { IfOk result (λ made. made ≡ row_for columns.now some_moment number row.now) }
 {

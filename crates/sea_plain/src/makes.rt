@@ -1,11 +1,11 @@
 // What an operation names and what it makes, by its form.
 ghost use Rattle.std.specs.Prelude.{◌≡◌, ℕ, List};
+ghost use Rattle.sea_schema.specs.Layout.{keys_of_new as keys_of_new_end, links_of_new as links_of_new_end};
 ghost use Rattle.sea_plain.specs.declared.operation.NamedCell.{NamedCell};
-ghost use Rattle.sea_plain.specs.Makes.{table_name as table_name_of, columns_made as columns_made_of, tables_made as tables_made_of, rows_made as rows_made_of};
+ghost use Rattle.sea_plain.specs.Makes.{table_name as table_name_of, columns_made as columns_made_of, links_made as links_made_of, tables_made as tables_made_of, rows_made as rows_made_of};
 
 use crate::operation::{NamedCell, Op, OpRow, RowChange};
-use sea_cell::{NewColumn, RowId, Text};
-use std::slice;
+use sea_cell::{NewColumn, NewEnd, RowId, Text};
 
 /// The table that an operation names.
 pub fn table_name(op: &Op) -> &Text
@@ -48,14 +48,44 @@ pub fn table_name(op: &Op) -> &Text
     }
 }
 
-/// The columns that an operation makes.
-pub fn columns_made(op: &Op) -> &[NewColumn]
-    ensures { result.now ≡ columns_made_of op.now }
+/// How many columns an operation makes.
+pub fn columns_made(op: &Op) -> usize
+    ensures { result ≡ columns_made_of op.now }
 {
     match op {
-        Op::InsertTable { table: _, columns } => columns.as_slice(),
-        Op::InsertColumn { table: _, column } => slice::from_ref(column),
-        _ => &[],
+        Op::InsertTable { table: _, columns } => columns.len(),
+        Op::InsertColumn { table: _, column } => keys_of_new(&column.other),
+        _ => 0,
+    }
+}
+
+// How many columns a new column makes: a link column has another side.
+fn keys_of_new(other: &Option<NewEnd>) -> usize
+    ensures { result ≡ keys_of_new_end other.now }
+{
+    match other {
+        Some(_) => 2,
+        None => 1,
+    }
+}
+
+/// How many links an operation makes.
+pub fn links_made(op: &Op) -> u32
+    ensures { result ≡ links_made_of op.now }
+{
+    match op {
+        Op::InsertColumn { table: _, column } => links_of_new(&column.other),
+        _ => 0,
+    }
+}
+
+// How many links a new column makes.
+fn links_of_new(other: &Option<NewEnd>) -> u32
+    ensures { result ≡ links_of_new_end other.now }
+{
+    match other {
+        Some(_) => 1,
+        None => 0,
     }
 }
 

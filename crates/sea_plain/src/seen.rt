@@ -4,6 +4,7 @@ ghost use Rattle.std.specs.BTreeSet.{contains_text};
 ghost use Rattle.std.specs.List.{list_any};
 ghost use Rattle.std.specs.Option.{option_copied};
 ghost use Rattle.std.specs.Str.{bytes_eq};
+ghost use Rattle.sea_links.specs.Pairs.{has_pair as has_pair_of};
 ghost use Rattle.sea_schema.specs.Tables.{table_named};
 ghost use Rattle.sea_plain.specs.Seen.{Seen, has_row, seen_of};
 
@@ -11,6 +12,7 @@ use crate::base::{Plain, PlainTable};
 use crate::lookup::plain_named;
 use crate::names::set_of;
 use sea_cell::{Row, RowId, Shared, TableNo, insert_text};
+use sea_links::{LinkPair, is_pair};
 use sea_schema::Table;
 use std::alloc::{AllocError, Global};
 use std::collections::BTreeSet;
@@ -55,6 +57,14 @@ pub trait SeenBase {
         ids: &[RowId],
     ) -> Result<BTreeSet<String>, AllocError>
         ensures { IfOk result (λ found. (id : List ℕ) → contains_text found id ≡ list_any (λ one. bytes_eq one.0 id && (seen self.now).has table one.0) ids.now) };
+
+    /// How many pairs of linked rows there are.
+    fn pair_count(&self) -> usize
+        ensures { result ≡ (seen self.now).pair_count };
+
+    /// Whether the link joins these rows, the first one on its first side.
+    fn linked(&self, link: u32, first: &RowId, second: &RowId) -> bool
+        ensures { result ≡ (seen self.now).linked link first.now.0 second.now.0 };
 }
 
 impl SeenBase for Plain {
@@ -90,10 +100,27 @@ impl SeenBase for Plain {
     ) -> Result<BTreeSet<String>, AllocError> {
         which_of_base(alloc, self.tables.as_slice(), table, ids)
     }
+
+    fn pair_count(&self) -> usize {
+        self.pairs.len()
+    }
+
+    fn linked(&self, link: u32, first: &RowId, second: &RowId) -> bool {
+        has_pair(self.pairs.as_slice(), link, first, second)
+    }
+}
+
+// One of the pairs is of this link and joins these rows.
+fn has_pair(pairs: &[Shared<LinkPair>], link: u32, first: &RowId, second: &RowId) -> bool
+    ensures { result ≡ has_pair_of pairs.now link first.now second.now }
+{
+    pairs
+        .iter()
+        .any(|pair| is_pair(link, first, second, pair.get()))
 }
 
 // The table of a name.
-#[tactic(auto, using(crate::proofs::Tables::found_without_rows))]
+#[tactic(auto, using(crate::proofs::Found::found_without_rows))]
 fn table_in<'a>(tables: &'a [PlainTable], name: &str) -> Option<&'a Table>
     ensures { option_copied result ≡ table_named (map (λ plain. plain.table) tables.now) name.now }
 {

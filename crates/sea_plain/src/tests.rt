@@ -121,7 +121,6 @@ fn refusal_shown(alloc: Global, refusal: &OpRefusal) -> Result<String, AllocErro
     match refusal {
         OpRefusal::Memory => format!(in alloc; "Memory"),
         OpRefusal::BadOperation => format!(in alloc; "BadOperation"),
-        OpRefusal::NotBuilt => format!(in alloc; "NotBuilt"),
         OpRefusal::NumbersSpent { counter } => {
             format!(in alloc; "NumbersSpent {}", counter_shown(*counter))
         }
@@ -153,18 +152,6 @@ fn given(alloc: Global, base: &mut Plain, op: Op, moment: i64) -> Result<String,
         }
         Err(refusal) => refusal_shown(alloc, &refusal),
     }
-}
-
-#[test]
-fn an_operation_that_is_not_built(rt: HostRuntime) -> Result<(), Fail> {
-    let alloc = rt.alloc();
-    let mut base = Plain::new(alloc);
-    let table = Text::copy_of(alloc, "T")?;
-    let view = Text::copy_of(alloc, "All")?;
-    let said = given(alloc, &mut base, Op::DeleteView { table, view }, 0)?;
-    same(&rt, said.as_str(), "NotBuilt", "a view taken away");
-    assert_eq!(rt; base.version, 0);
-    Ok(())
 }
 
 // Stops a test where a text isn't the wanted one.

@@ -1,1 +1,4 @@
+pub mod BackLaws
+pub mod EndsLaws
+pub mod LinksLaws
 pub mod PlacesLaws

@@ -2,9 +2,9 @@
 use Rattle.std.proofs.Common.{◌≡◌, ℕ, suc, ◌+◌, List, [], ◌∷◌, map, slice_get, Bool, true, false, cond, Option, Some, None, option_map, refl, sym, ap, ◌∙◌, arith}
 use Rattle.std.specs.Str.{bytes_eq}
 use Rattle.sea_schema.specs.declared.table.Table.{Table}
-use Rattle.sea_schema.specs.Tables.{table_named}
+use Rattle.sea_schema.specs.Tables.{table_named, without_links}
 use Rattle.sea_schema.specs.Layout.{if_table}
-use Rattle.sea_schema.specs.Places.{place_from, IsPlaces, KeepsNames}
+use Rattle.sea_schema.specs.Places.{place_from, IsPlaces, KeepsNames, KeepsPlaces}
 
 kept_if : (b : Bool) (change : Table → Table) → KeepsNames change → (table : Table) → (cond b (change table) table).name ≡ table.name
 kept_if true change keeps table = keeps table
@@ -16,9 +16,27 @@ place-map f keeps (table ∷ tables) start name =
     ap (λ (bytes : List ℕ). cond (bytes_eq bytes name) (Some start) (place_from (start + 1) (map f tables) name)) (keeps table)
     ∙ ap (λ (rest : Option ℕ). cond (bytes_eq table.name name) (Some start) rest) (place-map f keeps tables (start + 1) name)
 
--- a change that leaves the table its name leaves the places
-pub places-changed : (places : List ℕ → Option ℕ) (tables : List Table) (name : List ℕ) (change : Table → Table) → KeepsNames change → IsPlaces places tables → IsPlaces places (map (if_table name change) tables)
-places-changed places tables name change keeps are = λ other. are other ∙ sym (place-map (if_table name change) (λ table. kept_if (bytes_eq table.name name) change keeps table) tables 0 other)
+-- a change of a table that leaves it its name leaves the places
+pub places-changed : (tables : List Table) (name : List ℕ) (change : Table → Table) → KeepsNames change → KeepsPlaces tables (map (if_table name change) tables)
+places-changed tables name change keeps = λ other. place-map (if_table name change) (λ table. kept_if (bytes_eq table.name name) change keeps table) tables 0 other
+
+-- links that go leave the places
+pub places-unlinked : (tables : List Table) (links : List ℕ) → KeepsPlaces tables (map (without_links links) tables)
+places-unlinked tables links = λ other. place-map (without_links links) (λ table. refl) tables 0 other
+
+-- two changes one after the other
+pub places-both : (old between new : List Table) → KeepsPlaces old between → KeepsPlaces between new → KeepsPlaces old new
+places-both old between new first second = λ other. second other ∙ first other
+
+pub places-changed_to : (old new : List Table) (name : List ℕ) (change : Table → Table) → new ≡ map (if_table name change) old → KeepsNames change → KeepsPlaces old new
+places-changed_to old new name change is keeps = rw is (places-changed old name change keeps)
+
+pub places-unlinked_to : (old new : List Table) (links : List ℕ) → new ≡ map (without_links links) old → KeepsPlaces old new
+places-unlinked_to old new links is = rw is (places-unlinked old links)
+
+-- the places that there were serve tables that keep them
+pub places-kept : (places : List ℕ → Option ℕ) (old new : List Table) → IsPlaces places old → KeepsPlaces old new → IsPlaces places new
+places-kept places old new are keeps = λ other. are other ∙ sym (keeps other)
 
 -- what stands at a place, where there is one
 abbrev pub at_place : List Table → Option ℕ → Option Table

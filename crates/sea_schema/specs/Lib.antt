@@ -1,4 +1,5 @@
 pub mod Tables
 pub mod Layout
+pub mod Ends
 pub mod Changes
 pub mod Places

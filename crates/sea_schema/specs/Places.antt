@@ -15,3 +15,7 @@ IsPlaces places tables = (name : List ℕ) → places name ≡ place_from 0 tabl
 -- a change that leaves each table its name
 abbrev pub KeepsNames : (Table → Table) → Type 0
 KeepsNames change = (table : Table) → (change table).name ≡ table.name
+
+-- the table of each name has the place that it had
+abbrev pub KeepsPlaces : List Table → List Table → Type 0
+KeepsPlaces old new = (name : List ℕ) → place_from 0 new name ≡ place_from 0 old name

@@ -1,10 +1,13 @@
 -- Tables without their rows: how their parts are found by name, and how they are made and changed.
-use Rattle.std.specs.Prelude.{ℕ, ◌+◌, ◌==◌, List, [], ◌∷◌, ◌++◌, map, filter, Bool, true, not, if◌then◌else◌, Option, Some, None, option_map}
-use Rattle.std.specs.List.{find, list_any}
+use Rattle.std.specs.Prelude.{ℕ, ◌+◌, ◌==◌, List, [], ◌∷◌, ◌++◌, map, filter, Bool, true, false, not, if◌then◌else◌, Option, Some, None, option_map}
+use Rattle.std.specs.List.{find, list_any, filter_map}
+use Rattle.std.specs.Option.{option_map_or}
 use Rattle.std.specs.Str.{bytes_eq}
 use Rattle.sea_cell.specs.Once.{once}
 use Rattle.sea_cell.specs.declared.keys.ColKey.{ColKey}
+use Rattle.sea_cell.specs.declared.layout.ColKind.TheVariants.{Link}
 use Rattle.sea_cell.specs.declared.layout.Column.{Column}
+use Rattle.sea_cell.specs.declared.layout.LinkEnd.{LinkEnd}
 use Rattle.sea_cell.specs.declared.layout.NewColumn.{NewColumn}
 use Rattle.sea_cell.specs.declared.selection.Filter.{Filter}
 use Rattle.sea_cell.specs.declared.selection.View.{View}
@@ -115,3 +118,45 @@ is_other_view name view = not (bytes_eq view.name name)
 -- the table without a view
 abbrev pub without_view : List ℕ → Table → Table
 without_view name table = record table { views = filter (is_other_view name) table.views }
+
+-- ---- links
+
+-- one end of a link: a column of this name that says where its other end is
+abbrev pub link_column : ℕ → List ℕ → LinkEnd → Column
+link_column key name end = record { key = record { 0 = key }; name = name; kind = Link; unit = []; options = []; other = Some end }
+
+-- the table with an end of a link, at the end
+abbrev pub with_link_column : ℕ → List ℕ → LinkEnd → Table → Table
+with_link_column key name end table = record table { columns = table.columns ++ link_column key name end ∷ [] }
+
+-- the link that ends in a column
+abbrev pub link_of : Column → Option ℕ
+link_of column = option_map (λ end. end.link) column.other
+
+-- the links that end in these columns
+abbrev pub links_of : List Column → List ℕ
+links_of columns = filter_map link_of columns
+
+-- a column of this name
+abbrev pub has_name : List ℕ → Column → Bool
+has_name name column = bytes_eq column.name name
+
+-- the links that end in the column of a name
+abbrev pub links_named : List ℕ → List Column → List ℕ
+links_named name columns = links_of (filter (has_name name) columns)
+
+-- a link is one of these
+abbrev pub is_link_among : List ℕ → ℕ → Bool
+is_link_among links link = list_any (λ one. one == link) links
+
+-- a column that is an end of one of these links
+abbrev pub is_end_of : List ℕ → Column → Bool
+is_end_of links column = option_map_or (is_link_among links) (link_of column) false
+
+-- a column that is an end of none of these links
+abbrev pub is_of_no_link : List ℕ → Column → Bool
+is_of_no_link links column = not (is_end_of links column)
+
+-- the table without its ends of these links
+abbrev pub without_links : List ℕ → Table → Table
+without_links links table = record table { columns = filter (is_of_no_link links) table.columns }

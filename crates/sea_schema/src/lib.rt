@@ -2,15 +2,20 @@
 //!
 //! It stands on the columns and views of `sea_cell`. The contract that matters to the crates above is that of the
 //! changing calls of `Schema`: each makes the change that is defined in `specs/Layout.antt`, of one table or of the
-//! schema, and no other; want of memory is its one refusal, and leaves the schema as it was. Numbers of tables and keys
-//! of columns are given by counters that only rise, so none of them is used again.
+//! schema, and no other; want of memory is its one refusal, and leaves the schema as it was. A link column is added with
+//! its other side, and goes with it. Numbers of tables and of links and keys of columns are given by counters that only
+//! rise, so none of them is used again.
 #![tactic(auto)]
 
+mod laws;
+mod links;
 mod places;
 mod schema;
 mod table;
 #[cfg(test)]
 mod tests;
 
+pub use laws::links_have_two_ends;
+pub use links::is_link_among;
 pub use schema::Schema;
-pub use table::{Table, Tables, more_options};
+pub use table::{Table, Tables, column_named, more_options};

@@ -2,14 +2,15 @@
 ghost use Rattle.std.specs.Prelude.{◌≡◌, ◌+◌, ◌<◌, ◌^◌, ◌++◌, ◌∷◌, [], map, filter, length, IfOk, OnOk, OnErr};
 ghost use Rattle.std.specs.Option.{option_copied};
 ghost use Rattle.std.specs.Str.{bytes_eq};
-ghost use Rattle.sea_schema.specs.Tables.{table_named, with_name, with_column, with_column_name, with_options, without_column, with_view, without_view};
-ghost use Rattle.sea_schema.specs.Layout.{empty_layout, if_table, in_table, with_table, without_table, with_new_column, is_other_table as is_other_table_of};
+ghost use Rattle.sea_schema.specs.Tables.{table_named, with_name, with_link_column, with_column_name, with_options, with_view, without_view};
+ghost use Rattle.sea_schema.specs.Layout.{empty_layout, if_table, in_table, with_table, with_plain_column, with_link, with_new_column, keys_of_new, links_of_new, number_named, links_of_column, links_of_table, without_column_of, without_table_of, end_towards, is_other_table as is_other_table_of};
 ghost use Rattle.sea_schema.specs.Changes.{change_of};
-ghost use Rattle.sea_schema.specs.Places.{KeepsNames};
+ghost use Rattle.sea_schema.specs.Places.{KeepsNames, KeepsPlaces};
 
+use crate::links::without_ends;
 use crate::places::{Places, found, places_of};
 use crate::table::{Table, Tables};
-use sea_cell::{ColKey, Duplicate, NewColumn, Shared, TableNo, Texts, View};
+use sea_cell::{ColKey, Duplicate, LinkEnd, NewColumn, NewEnd, Shared, TableNo, Texts, View};
 use sqlite_items::Items;
 use std::alloc::{AllocError, Global};
 use std::collections::BTreeMap;
@@ -44,6 +45,7 @@ impl Model for Schema {
 enum Change<'a> {
     Name(&'a str),
     Column(ColKey, &'a NewColumn),
+    LinkColumn(ColKey, &'a str, LinkEnd),
     ColumnName(&'a str, &'a str),
     Options(&'a str, &'a Texts),
     WithoutColumn(&'a str),
@@ -133,26 +135,29 @@ impl Schema {
         Ok(())
     }
 
-    /// Removes a table. Its number and the keys of its columns are not given again.
+    /// Removes a table, and from the other tables the other ends of its links. Its number, the keys of its columns and the
+    /// numbers of its links are not given again.
     pub fn remove_table(&mut self, table: &str) -> Result<(), AllocError>
-        ensures ok { OnOk result (self.new ≡ without_table table.now self.old) }
+        ensures ok { OnOk result (self.new ≡ without_table_of table.now self.old) }
         ensures err { OnErr result (self.new ≡ self.old) }
     {
-        let tables = other_tables(self.alloc, self.tables.as_slice(), table)?;
+        let tables = self.tables_without_table(table)?;
         self.put_tables(tables)?;
         Ok(())
     }
 
-    /// Adds a column at the end of a table, with the next key. It is no link column, and the counter stays below 2^32.
+    /// Adds a column at the end of a table, with the next key. A link column is the first end of the next link; the other
+    /// end comes at the end of the other table, with the key after it. The counters stay below 2^32.
     pub fn add_column(&mut self, table: &str, column: &NewColumn) -> Result<(), AllocError>
-        requires { self.old.next_column + 1 < 2 ^ 32 }
+        requires keys { self.old.next_column + keys_of_new column.now.other < 2 ^ 32 }
+        requires links { self.old.next_link + links_of_new column.now.other < 2 ^ 32 }
         ensures ok { OnOk result (self.new ≡ with_new_column table.now column.now self.old) }
         ensures err { OnErr result (self.new ≡ self.old) }
     {
-        let key = ColKey(self.next_column);
-        self.change(table, &Change::Column(key, column))?;
-        self.next_column += 1;
-        Ok(())
+        match &column.other {
+            Some(other) => self.add_link(table, column.name.as_str(), other),
+            None => self.add_plain_column(table, column),
+        }
     }
 
     /// Gives a column of a table another name.
@@ -164,12 +169,14 @@ impl Schema {
         Ok(())
     }
 
-    /// Removes a column of a table, and the filters that ask for its cells. Its key is not given again.
+    /// Removes a column of a table, and the filters that ask for its cells. With an end of a link the other end goes too.
+    /// Keys and the link's number are not given again.
     pub fn remove_column(&mut self, table: &str, column: &str) -> Result<(), AllocError>
-        ensures ok { OnOk result (self.new ≡ in_table table.now (without_column column.now) self.old) }
+        ensures ok { OnOk result (self.new ≡ without_column_of table.now column.now self.old) }
         ensures err { OnErr result (self.new ≡ self.old) }
     {
-        self.change(table, &Change::WithoutColumn(column))?;
+        let tables = self.tables_without_column(table, column)?;
+        self.set_tables(tables);
         Ok(())
     }
 
@@ -205,6 +212,113 @@ impl Schema {
         Ok(())
     }
 
+    // Adds a column that is no link column.
+    fn add_plain_column(&mut self, table: &str, column: &NewColumn) -> Result<(), AllocError>
+        requires { self.old.next_column + 1 < 2 ^ 32 }
+        ensures ok { OnOk result (self.new ≡ with_plain_column table.now column.now self.old) }
+        ensures err { OnErr result (self.new ≡ self.old) }
+    {
+        let key = ColKey(self.next_column);
+        self.change(table, &Change::Column(key, column))?;
+        self.next_column += 1;
+        Ok(())
+    }
+
+    // Adds both columns of a link.
+    fn add_link(&mut self, table: &str, name: &str, other: &NewEnd) -> Result<(), AllocError>
+        requires keys { self.old.next_column + 2 < 2 ^ 32 }
+        requires links { self.old.next_link + 1 < 2 ^ 32 }
+        ensures ok { OnOk result (self.new ≡ with_link table.now name.now other.now self.old) }
+        ensures err { OnErr result (self.new ≡ self.old) }
+    {
+        let tables = self.tables_with_link(table, name, other)?;
+        self.set_tables(tables);
+        self.next_column += 2;
+        self.next_link += 1;
+        Ok(())
+    }
+
+    // The tables with both columns of the next link.
+    fn tables_with_link(
+        &self,
+        table: &str,
+        name: &str,
+        other: &NewEnd,
+    ) -> Result<Tables, AllocError>
+        requires { self.now.next_column + 1 < 2 ^ 32 }
+        ensures tables { IfOk result (λ tables. tables ≡ (with_link table.now name.now other.now self.now).tables) }
+        ensures places { IfOk result (λ tables. KeepsPlaces self.now.tables tables) }
+    {
+        let key = self.next_column;
+        let first = self.end_towards(other.table.as_str(), true);
+        let second = self.end_towards(table, false);
+        let (to, to_name) = (other.table.as_str(), other.name.as_str());
+        let tables = tables_with_end(self.alloc, self.tables.as_slice(), table, key, name, first)?;
+        let linked = tables_with_end(self.alloc, tables.as_slice(), to, key + 1, to_name, second)?;
+        Ok(linked)
+    }
+
+    // An end of the next link, whose other end is in the table of a name.
+    fn end_towards(&self, other: &str, first: bool) -> LinkEnd
+        ensures { result ≡ end_towards other.now first self.now }
+    {
+        LinkEnd {
+            link: self.next_link,
+            table: self.number_of(other),
+            first,
+        }
+    }
+
+    // The number of the table of a name, or 0.
+    fn number_of(&self, name: &str) -> TableNo
+        ensures { result.0 ≡ number_named self.now.tables name.now }
+    {
+        match self.table(name) {
+            Some(table) => table.no,
+            None => TableNo(0),
+        }
+    }
+
+    // The tables without a column, and without the other end of its link.
+    fn tables_without_column(&self, table: &str, column: &str) -> Result<Tables, AllocError>
+        ensures tables { IfOk result (λ tables. tables ≡ (without_column_of table.now column.now self.now).tables) }
+        ensures places { IfOk result (λ tables. KeepsPlaces self.now.tables tables) }
+    {
+        let links = self.links_of_column(table, column)?;
+        let tables = self.changed(table, &Change::WithoutColumn(column))?;
+        let unlinked = without_ends(self.alloc, tables, &links)?;
+        Ok(unlinked)
+    }
+
+    // The tables without one of them, and without the other ends of its links.
+    fn tables_without_table(&self, table: &str) -> Result<Tables, AllocError>
+        ensures { IfOk result (λ tables. tables ≡ (without_table_of table.now self.now).tables) }
+    {
+        let links = self.links_of_table(table)?;
+        let tables = other_tables(self.alloc, self.tables.as_slice(), table)?;
+        without_ends(self.alloc, tables, &links)
+    }
+
+    // The links that end in a column of a table.
+    fn links_of_column(&self, table: &str, column: &str) -> Result<Vec<u32>, AllocError>
+        ensures { IfOk result (λ links. links.items ≡ links_of_column table.now column.now self.now.tables) }
+    {
+        match self.table(table) {
+            Some(found) => found.links_of_column(self.alloc, column),
+            None => Ok(Vec::new(self.alloc)),
+        }
+    }
+
+    // The links that end in a table.
+    fn links_of_table(&self, table: &str) -> Result<Vec<u32>, AllocError>
+        ensures { IfOk result (λ links. links.items ≡ links_of_table table.now self.now.tables) }
+    {
+        match self.table(table) {
+            Some(found) => found.links(self.alloc),
+            None => Ok(Vec::new(self.alloc)),
+        }
+    }
+
     // Puts tables in the place of those that there are.
     fn put_tables(&mut self, tables: Tables) -> Result<(), AllocError>
         ensures ok { OnOk result (self.new ≡ record self.old { tables = tables }) }
@@ -216,14 +330,22 @@ impl Schema {
         Ok(())
     }
 
-    // Makes a change of the table of a name that leaves it its name, so that the places stay.
+    // Puts tables in the place of those that there are, where the table of each name keeps its place.
+    fn set_tables(&mut self, tables: Tables)
+        requires { KeepsPlaces self.old.tables tables }
+        ensures { self.new ≡ record self.old { tables = tables } }
+    {
+        self.tables = tables;
+    }
+
+    // Makes a change of the table of a name that leaves it its name.
     fn change(&mut self, name: &str, change: &Change) -> Result<(), AllocError>
         requires { KeepsNames (change_of change.now) }
         ensures ok { OnOk result (self.new ≡ in_table name.now (change_of change.now) self.old) }
         ensures err { OnErr result (self.new ≡ self.old) }
     {
         let tables = self.changed(name, change)?;
-        self.tables = tables;
+        self.set_tables(tables);
         Ok(())
     }
 
@@ -246,6 +368,23 @@ impl Duplicate for Schema {
             next_link: self.next_link,
         })
     }
+}
+
+// Tables with an end of a link in the one of a name.
+fn tables_with_end(
+    alloc: Global,
+    tables: &[Shared<Table>],
+    table: &str,
+    key: u32,
+    name: &str,
+    end: LinkEnd,
+) -> Result<Tables, AllocError>
+    ensures ends { IfOk result (λ new. new ≡ map (if_table table.now (with_link_column key name.now end)) tables.now) }
+    ensures places { IfOk result (λ new. KeepsPlaces tables.now new) }
+{
+    let change = Change::LinkColumn(ColKey(key), name, end);
+    let new = changed_tables(alloc, tables, table, &change)?;
+    Ok(new)
 }
 
 // Tables with a change of the one of a name.
@@ -286,6 +425,7 @@ fn changed_table(alloc: Global, table: &Table, change: &Change) -> Result<Table,
     match change {
         Change::Name(to) => table.with_name(alloc, to),
         Change::Column(key, column) => table.with_column(alloc, *key, column),
+        Change::LinkColumn(key, name, end) => table.with_link_column(alloc, *key, name, *end),
         Change::ColumnName(column, to) => table.with_column_name(alloc, column, to),
         Change::Options(column, options) => table.with_options(alloc, column, options),
         Change::WithoutColumn(column) => table.without_column(alloc, column),

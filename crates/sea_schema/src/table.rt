@@ -3,7 +3,7 @@ ghost use Rattle.std.specs.Prelude.{◌≡◌, ◌+◌, ◌<◌, ◌^◌, ◌++�
 ghost use Rattle.std.specs.Option.{option_copied};
 ghost use Rattle.std.specs.List.{list_any};
 ghost use Rattle.sea_cell.specs.Once.{once};
-ghost use Rattle.sea_schema.specs.Tables.{column_named, key_named, view_named, column_of as column_for, columns_of as columns_for, table_of, with_name, with_column, if_named, column_with_name, with_column_name, column_with_options, with_options, is_view as is_view_of, if_view, put_view, with_view, is_other_view as is_other_view_of, without_view, has_other_name as has_other_name_of, is_of_other as is_of_other_of, without_filters, without_column};
+ghost use Rattle.sea_schema.specs.Tables.{column_named as column_named_of, key_named, view_named, column_of as column_for, columns_of as columns_for, table_of, with_name, with_column, if_named, column_with_name, with_column_name, column_with_options, with_options, is_view as is_view_of, if_view, put_view, with_view, is_other_view as is_other_view_of, without_view, has_other_name as has_other_name_of, is_of_other as is_of_other_of, without_filters, without_column};
 
 use sea_cell::{
     ColKey, Column, Columns, Duplicate, Filter, Filters, NewColumn, Shared, TableNo, Text, Texts,
@@ -47,12 +47,9 @@ impl Table {
 
     /// The column of a name, where there is one. It takes no memory.
     pub fn column(&self, name: &str) -> Option<&Column>
-        ensures { option_copied result ≡ column_named self.now.columns name.now }
+        ensures { option_copied result ≡ column_named_of self.now.columns name.now }
     {
-        self.columns
-            .as_slice()
-            .iter()
-            .find(|column| column.name.as_str() == name)
+        column_named(self.columns.as_slice(), name)
     }
 
     /// The key of the column of a name, where there is one. It takes no memory.
@@ -182,6 +179,13 @@ impl Duplicate for Table {
             views: self.views.duplicate(alloc)?,
         })
     }
+}
+
+/// The column of a name among these, where there is one. It takes no memory.
+pub fn column_named<'a>(columns: &'a [Column], name: &str) -> Option<&'a Column>
+    ensures { option_copied result ≡ column_named_of columns.now name.now }
+{
+    columns.iter().find(|column| column.name.as_str() == name)
 }
 
 // New columns whose keys are given from `key`.

@@ -1,7 +1,9 @@
+ghost use Rattle.std.specs.Prelude.{◌≡◌, None, IfOk};
+
 use crate::{Schema, Table};
 use sea_cell::{
-    ColKey, ColKind, Column, Duplicate, Filter, Filters, NewColumn, NewColumns, Term, Test, Text,
-    Texts, View,
+    ColKey, ColKind, Column, Duplicate, Filter, Filters, LinkEnd, NewColumn, NewColumns, NewEnd,
+    Term, Test, Text, Texts, View,
 };
 use std::alloc::{AllocError, Global};
 use std::process::Abort;
@@ -16,7 +18,9 @@ fn texts(alloc: Global, words: &[&str]) -> Result<Texts, AllocError> {
 }
 
 // A column to be made, with options.
-fn new_column(alloc: Global, name: &str, options: &[&str]) -> Result<NewColumn, AllocError> {
+fn new_column(alloc: Global, name: &str, options: &[&str]) -> Result<NewColumn, AllocError>
+    ensures { IfOk result (λ column. column.other ≡ None) }
+{
     Ok(NewColumn {
         name: Text::copy_of(alloc, name)?,
         kind: ColKind::Select,
@@ -51,9 +55,21 @@ fn new_view(alloc: Global, name: &str, keys: &[u32]) -> Result<View, AllocError>
     })
 }
 
-// A column as its name, key and options.
+// The end of a link as the link, the other table, and a mark if it is the first.
+fn end_shown(alloc: Global, other: Option<LinkEnd>) -> Result<String, AllocError> {
+    match other {
+        Some(end) => {
+            let mark = if end.first { "!" } else { "" };
+            format!(in alloc; "~{}>{}{mark}", end.link, end.table.0)
+        }
+        None => Ok(String::new(alloc)),
+    }
+}
+
+// A column as its name, key, end of a link and options.
 fn column_shown(alloc: Global, column: &Column) -> Result<String, AllocError> {
     let mut all = format!(in alloc; " {}={}", column.name.as_str(), column.key.0)?;
+    all.push_str(end_shown(alloc, column.other)?.as_str())?;
     for option in column.options.as_slice() {
         all.push_str(format!(in alloc; "/{}", option.as_str())?.as_str())?;
     }
@@ -134,8 +150,30 @@ fn add_column(
     name: &str,
     options: &[&str],
 ) -> Result<(), Fail> {
-    assert!(rt; schema.next_column() < 100);
+    assert!(rt; schema.next_column() < 100 && schema.next_link() < 100);
     schema.add_column(table, &new_column(alloc, name, options)?)?;
+    Ok(())
+}
+
+// Adds a link column to a table, with its other side.
+fn add_link(
+    rt: &impl Abort,
+    alloc: Global,
+    schema: &mut Schema,
+    [table, name, other_table, other_name]: [&str; 4],
+) -> Result<(), Fail> {
+    assert!(rt; schema.next_column() < 100 && schema.next_link() < 100);
+    let column = NewColumn {
+        name: Text::copy_of(alloc, name)?,
+        kind: ColKind::Link,
+        unit: Text::copy_of(alloc, "")?,
+        options: Texts::new(alloc),
+        other: Some(NewEnd {
+            table: Text::copy_of(alloc, other_table)?,
+            name: Text::copy_of(alloc, other_name)?,
+        }),
+    };
+    schema.add_column(table, &column)?;
     Ok(())
 }
 
@@ -224,6 +262,62 @@ fn an_option_counts_once(rt: HostRuntime) -> Result<(), Fail> {
         alloc,
         &schema,
         "3 5 1 | 1 T: Name=1 Note=2 2 U: Name=3 State=4/a/b/c",
+    )?;
+    Ok(())
+}
+
+// Two tables with a link between them, and one of the second table with itself.
+fn linked_tables(rt: &impl Abort, alloc: Global) -> Result<Schema, Fail> {
+    let mut schema = two_tables(rt, alloc)?;
+    add_link(rt, alloc, &mut schema, ["T", "Parts", "U", "Whole"])?;
+    add_link(rt, alloc, &mut schema, ["U", "Below", "U", "Above"])?;
+    Ok(schema)
+}
+
+#[test]
+fn a_link_goes_with_either_end(rt: HostRuntime) -> Result<(), Fail> {
+    let alloc = rt.alloc();
+    let schema = linked_tables(&rt, alloc)?;
+    is(
+        &rt,
+        alloc,
+        &schema,
+        "3 8 3 | 1 T: Name=1 Note=2 Parts=4~1>2! 2 U: Name=3 Whole=5~1>1 Below=6~2>2! Above=7~2>2",
+    )?;
+    let without_first = "3 8 3 | 1 T: Name=1 Note=2 2 U: Name=3 Below=6~2>2! Above=7~2>2";
+    let without_second = "3 8 3 | 1 T: Name=1 Note=2 Parts=4~1>2! 2 U: Name=3 Whole=5~1>1";
+    for (table, column, wanted) in [
+        ("T", "Parts", without_first),
+        ("U", "Whole", without_first),
+        ("U", "Below", without_second),
+        ("U", "Above", without_second),
+    ] {
+        let mut copy = schema.duplicate(alloc)?;
+        copy.remove_column(table, column)?;
+        is(&rt, alloc, &copy, wanted)?;
+    }
+    Ok(())
+}
+
+#[test]
+fn a_link_goes_with_either_table(rt: HostRuntime) -> Result<(), Fail> {
+    let alloc = rt.alloc();
+    let schema = linked_tables(&rt, alloc)?;
+    let without_first = "3 8 3 | 2 U: Name=3 Below=6~2>2! Above=7~2>2";
+    for (table, wanted) in [("T", without_first), ("U", "3 8 3 | 1 T: Name=1 Note=2")] {
+        let mut copy = schema.duplicate(alloc)?;
+        copy.remove_table(table)?;
+        is(&rt, alloc, &copy, wanted)?;
+    }
+    let mut again = schema.duplicate(alloc)?;
+    again.remove_table("U")?;
+    add_table(&rt, alloc, &mut again, "U", &[])?;
+    add_link(&rt, alloc, &mut again, ["U", "Of", "T", "Has"])?;
+    is(
+        &rt,
+        alloc,
+        &again,
+        "4 10 4 | 1 T: Name=1 Note=2 Has=9~3>3 3 U: Of=8~3>1!",
     )?;
     Ok(())
 }

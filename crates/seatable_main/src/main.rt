@@ -81,6 +81,8 @@ fn open_folder<R: Files<File = File>>(
 #[cfg(test)]
 mod kept;
 #[cfg(test)]
+mod links;
+#[cfg(test)]
 mod operations;
 #[cfg(test)]
 mod tests;

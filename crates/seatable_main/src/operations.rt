@@ -221,14 +221,14 @@ const OPERATIONS: [(&str, &str); 53] = [
         r#"{"op":"rename_table","table":"T","to":"U"}"#,
         r#"{"version":16}"#,
     ),
-    // what isn't built yet
+    // a link to no table, and a view that isn't there
     (
         r#"{"op":"insert_column","table":"U","column":{"name":"L","type":"link","other":"V","other_name":"M"}}"#,
-        r#"{"error":"NotYet"}"#,
+        r#"{"error":"NoTable","name":"V"}"#,
     ),
     (
         r#"{"op":"delete_view","table":"U","view":"All"}"#,
-        r#"{"error":"NotYet"}"#,
+        r#"{"error":"NoView","name":"All"}"#,
     ),
 ];
 
@@ -237,7 +237,7 @@ const LEFT: &str =
     r#"{"columns":["Name","Amount","Date","State","Changed","Tags"],"rows":[["A",null,"2024-02-29","closed","1970-01-01",null],["C",null,null,null,"1970-01-01",null],[null,null,null,null,"1970-01-01",null],[null,null,null,null,"1970-01-01",null]]}"#;
 
 // The replies to a script on a blank disk.
-fn replies_to(alloc: Global, script: String) -> Result<(Status, Vec<u8>), AllocError> {
+pub fn replies_to(alloc: Global, script: String) -> Result<(Status, Vec<u8>), AllocError> {
     let mut source = MemSource::new(script.into_bytes(), 10_000, Vec::new(alloc));
     let mut sink = MemSink::new(Vec::new(alloc), Vec::new(alloc));
     let mut clock = FixedClock::new(0);
@@ -254,7 +254,7 @@ fn replies_to(alloc: Global, script: String) -> Result<(Status, Vec<u8>), AllocE
 }
 
 // Adds a line.
-fn add(all: &mut String, word: &str, rest: &str) -> Result<(), AllocError> {
+pub fn add(all: &mut String, word: &str, rest: &str) -> Result<(), AllocError> {
     all.push_str(word)?;
     all.push_str(rest)?;
     all.push('\n')
@@ -280,7 +280,7 @@ fn each_operation_and_each_refusal(rt: HostRuntime) -> Result<(), Fail> {
 }
 
 // The version in a reply to an accepted operation, or else the one before.
-fn version_after(reply: &str, before: usize) -> usize {
+pub fn version_after(reply: &str, before: usize) -> usize {
     match reply.starts_with("{\"version\":") {
         true => before.saturating_add(1),
         false => before,

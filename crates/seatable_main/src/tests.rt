@@ -110,7 +110,7 @@ fn replies_to_each_line(rt: HostRuntime) -> Result<(), Fail> {
         ),
         (
             "op {\"op\":\"delete_view\",\"table\":\"T\",\"view\":\"All\"}",
-            not_yet,
+            "{\"error\":\"NoTable\",\"name\":\"T\"}\n",
         ),
         ("sql ", not_yet),
         (

@@ -6,4 +6,4 @@ use Rattle.sea_ops.proofs.checking.check.Goals as goal
 
 -- what is shown of a plain base is what is seen of it
 pub returns-clause-plain : goal.returns-clause-plain
-returns-clause-plain g c = λ base shows. subst (λ seen. Checks c.check_beside.result (seen_refusal seen c.args.op.now)) (same_seen _ _ _ base shows) c.check_beside.ensures
+returns-clause-plain g c = λ base shows. subst (λ seen. Checks c.check_beside.result (seen_refusal seen c.args.op.now)) (same_seen _ _ _ _ _ base shows) c.check_beside.ensures

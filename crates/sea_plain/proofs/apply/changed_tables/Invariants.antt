@@ -1,6 +1,0 @@
-use Rattle.std.proofs.Common.{◌≡◌, map, take}
-use Rattle.sea_plain.specs.Apply.{plain_after}
-use Rattle.sea_plain.proofs.apply.changed_tables.Given as goal
-
-abbrev pub invariant-loop-plain : goal.invariant-loop-plain
-invariant-loop-plain l = l.tables ≡ map (plain_after l.base l.moment l.op) (take l.plain-index l.plain-items)

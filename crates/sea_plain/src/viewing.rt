@@ -1,0 +1,101 @@
+// The refusals of operations on views, but for the names of columns.
+ghost use Rattle.std.specs.Prelude.{◌≡◌, None, Some, is_some, if◌then◌else◌, IfOk};
+ghost use Rattle.sea_plain.specs.Checks.{Checks};
+ghost use Rattle.sea_plain.specs.Refusal.{missing_view as missing_view_in, no_view as no_view_in, taken_view, bad_filter_from, bad_filter as bad_filter_in};
+ghost use Rattle.sea_plain.specs.Seen.{views_in as views_in_seen};
+ghost use Rattle.sea_plain.specs.Viewed.{filter_of as filter_for};
+ghost use Rattle.sea_schema.specs.Tables.{view_named as view_named_of};
+ghost use Rattle.std.specs.Option.{option_copied};
+
+use crate::checking::columns_in;
+use crate::operation::{NewFilter, Op};
+use crate::refusal::OpRefusal;
+use crate::seen::SeenBase;
+use crate::viewed::filter_of;
+use sea_cell::{Column, Duplicate, Text, View};
+use std::alloc::Global;
+
+/// The views of the table of a name, or none.
+pub fn views_in<'a, S: SeenBase>(seen: &'a S, name: &str) -> &'a [View]
+    ensures { result.now ≡ views_in_seen (S.seen seen.now) name.now }
+{
+    match seen.table(name) {
+        Some(table) => table.views.as_slice(),
+        None => &[],
+    }
+}
+
+/// The view that the operation names is there.
+pub fn no_view<S: SeenBase>(alloc: Global, op: &Op, seen: &S) -> Result<(), OpRefusal>
+    ensures { Checks result (no_view_in (S.seen seen.now) op.now) }
+{
+    match op {
+        Op::ModifyView { table, view } => {
+            is_view(alloc, views_in(seen, table.as_str()), &view.name)
+        }
+        Op::DeleteView { table, view } => is_view(alloc, views_in(seen, table.as_str()), view),
+        _ => Ok(()),
+    }
+}
+
+fn is_view(alloc: Global, views: &[View], name: &Text) -> Result<(), OpRefusal>
+    ensures { Checks result (missing_view_in views.now name.now) }
+{
+    if view_named(views, name.as_str()).is_some() {
+        return Ok(());
+    }
+    Err(OpRefusal::NoView {
+        name: name.duplicate(alloc)?,
+    })
+}
+
+// The view of a name.
+fn view_named<'a>(views: &'a [View], name: &str) -> Option<&'a View>
+    ensures { option_copied result ≡ view_named_of views.now name.now }
+{
+    views.iter().find(|view| view.name.as_str() == name)
+}
+
+/// The name isn't that of a view.
+pub fn view_taken(alloc: Global, views: &[View], name: &Text) -> Result<(), OpRefusal>
+    ensures { Checks result (taken_view views.now name.now) }
+{
+    if view_named(views, name.as_str()).is_none() {
+        return Ok(());
+    }
+    Err(OpRefusal::NameTaken {
+        name: name.duplicate(alloc)?,
+    })
+}
+
+/// Each filter of a view fits its column.
+pub fn bad_filter<S: SeenBase>(alloc: Global, op: &Op, seen: &S) -> Result<(), OpRefusal>
+    ensures { Checks result (bad_filter_in (S.seen seen.now) op.now) }
+{
+    match op {
+        Op::InsertView { table, view } => fit(
+            alloc,
+            columns_in(seen, table.as_str()),
+            view.filters.as_slice(),
+        ),
+        Op::ModifyView { table, view } => fit(
+            alloc,
+            columns_in(seen, table.as_str()),
+            view.filters.as_slice(),
+        ),
+        _ => Ok(()),
+    }
+}
+
+fn fit(alloc: Global, columns: &[Column], filters: &[NewFilter]) -> Result<(), OpRefusal>
+    ensures { Checks result (bad_filter_from 0 columns.now filters.now) }
+{
+    let mut index = 0;
+    for filter in filters {
+        if filter_of(alloc, columns, filter)?.is_none() {
+            return Err(OpRefusal::BadFilter { index });
+        }
+        index += 1;
+    }
+    Ok(())
+}
