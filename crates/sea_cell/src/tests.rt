@@ -1,8 +1,8 @@
 use crate::{
     Cell, CellValue, CellWord, Cells, ColKey, ColKind, Column, Duplicate, Filter, Filters, Ids,
     Moment, Row, RowId, Sort, Term, Test, Text, Texts, View, cell_of_json, json_of_cell,
-    kind_of_word, no_text_goes_or_stays_twice, row_bytes, sort_of, type_word, without_repeats,
-    word_of_json, words_name_kinds,
+    kind_of_word, no_text_goes_or_stays_twice, row_bytes, sort_of, term_of_word, test_of_word,
+    type_word, without_repeats, word_of_json, words_name_kinds, words_name_tests,
 };
 use sea_moment::{FIRST, LAST};
 use serde_json::Value;
@@ -549,5 +549,66 @@ fn copies_of_views(rt: HostRuntime) -> Result<(), Fail> {
         same(&rt, text.as_str(), "4 has any of a|b|", "the filter");
     }
     assert_eq!(rt; (view.all, view.filters.len()), (true, 1));
+    Ok(())
+}
+
+// What a filter compares with, by its kind.
+fn term_shown(term: Option<&Term>) -> &'static str {
+    match term {
+        None => "none",
+        Some(Term::Nothing) => "nothing",
+        Some(Term::Cell(_)) => "cell",
+        Some(Term::Items(_)) => "items",
+    }
+}
+
+#[test]
+fn filters_that_fit_a_column(rt: HostRuntime) -> Result<(), Fail> {
+    let alloc = rt.alloc();
+    words_name_tests();
+    for (kind, predicate, term, found) in [
+        ("text", "is", "\"x\"", "cell"),
+        ("text", "is", "\"\"", "none"),
+        ("text", "is", "null", "none"),
+        ("text", "is", "1", "none"),
+        ("text", "contains", "\"x\"", "cell"),
+        ("text", "contains", "\"\"", "none"),
+        ("text", "less", "\"x\"", "none"),
+        ("text", "has_any_of", "[]", "none"),
+        ("text", "is_empty", "null", "nothing"),
+        ("text", "is_empty", "\"\"", "none"),
+        ("text", "IS", "\"x\"", "none"),
+        ("long-text", "does_not_contain", "\"x\"", "cell"),
+        ("number", "greater_or_equal", "-3", "cell"),
+        ("number", "is_not", "1.5", "none"),
+        ("number", "is", "1000000000001", "none"),
+        ("number", "contains", "\"1\"", "none"),
+        ("checkbox", "is", "false", "cell"),
+        ("checkbox", "is", "null", "none"),
+        ("checkbox", "is_not", "true", "none"),
+        ("date", "less_or_equal", "\"2024-02-29\"", "cell"),
+        ("date", "is", "\"2023-02-29\"", "none"),
+        ("single-select", "is_not", "\"no option\"", "cell"),
+        ("single-select", "is", "\"\"", "none"),
+        ("single-select", "contains", "\"o\"", "cell"),
+        ("multiple-select", "has_all_of", "[\"no option\"]", "items"),
+        ("multiple-select", "is_exactly", "[]", "items"),
+        ("multiple-select", "is", "[\"a\"]", "none"),
+        ("collaborator", "has_none_of", "[\"Ann\"]", "items"),
+        ("collaborator", "has_any_of", "\"Ann\"", "none"),
+        ("link", "is_empty", "null", "none"),
+        ("link", "has_any_of", "[\"a\"]", "none"),
+        ("ctime", "greater", "\"2024-02-29 08:30\"", "cell"),
+        ("mtime", "is", "null", "none"),
+        ("mtime", "is_not_empty", "null", "nothing"),
+    ] {
+        let kind = kind_of_word(kind).ok_or("no type")?;
+        let word = word_of_json(alloc, &Value::from_str(alloc, term)?)?;
+        let made = match test_of_word(predicate) {
+            Some(test) => term_of_word(alloc, kind, test, &word)?,
+            None => None,
+        };
+        same(&rt, term_shown(made.as_ref()), found, predicate);
+    }
     Ok(())
 }

@@ -1,5 +1,5 @@
 -- What an edit answers and leaves.
-use Rattle.std.proofs.Common.{◌≡◌, ◌≢◌, ℕ, ◌+◌, ◌<◌, ◌≤◌, List, [], ◌∷◌, ◌++◌, Option, Some, None, Result, Ok, Err, IsOk, IsUtf8, inl, inr, refl, sym, ap, ◌∙◌, subst, arith}
+use Rattle.std.proofs.Common.{◌≡◌, ◌≢◌, ℕ, ◌+◌, ◌<◌, ◌≤◌, List, [], ◌∷◌, ◌++◌, Option, Some, None, MatchOption, Result, Ok, Err, IsOk, IsUtf8, inl, inr, refl, sym, ap, ◌∙◌, subst, arith}
 use Rattle.std.proofs.lemmas.Bool.{cases_lt}
 use Rattle.sea_disk.specs.declared.file.File.{File}
 use Rattle.sea_disk.specs.declared.file.File.TheVariants.{Base0, Base1, Log0, Log1}
@@ -121,6 +121,8 @@ edited_refused core entry (edit.Op refusal) none refused = (none, refused, refl)
 edited_refused core entry (edit.BaseFailed count) none refused = absurd refused
 edited_refused core entry (edit.LogFull size) none refused = absurd refused
 edited_refused core entry edit.DiskFault none refused = absurd refused
+edited_refused core entry (edit.FeedGone _) none refused = absurd refused
+edited_refused core entry (edit.FeedAhead _) none refused = absurd refused
 
 pub cause_refused : (base : Plain) (entry : Entry) (fault : CoreFault) (count : ℕ) → IsRefusedBy base entry fault → EditCause {T = ℕ} (Err fault) count count
 cause_refused base entry edit.Memory count refused = refl
@@ -128,6 +130,8 @@ cause_refused base entry (edit.Op refusal) count refused = refl
 cause_refused base entry (edit.BaseFailed _) count refused = refl
 cause_refused base entry (edit.LogFull size) count refused = refl
 cause_refused base entry edit.DiskFault count refused = absurd refused
+cause_refused base entry (edit.FeedGone _) count refused = absurd refused
+cause_refused base entry (edit.FeedAhead _) count refused = absurd refused
 
 -- the record is longer than any log may be
 pub edited_too_large : {D : Type 0} (core : Core D) (entry : Entry) (next : Plain) (fault : CoreFault) → core.doubt ≡ None → apply core.base entry ≡ Ok next → IsTooLarge core.end next.version entry fault → Edited core core entry (Err fault)
@@ -142,6 +146,8 @@ edited_too_large core entry next (edit.LogFull size) none made large = (
   refl,
 )
 edited_too_large core entry next edit.DiskFault none made large = absurd large
+edited_too_large core entry next (edit.FeedGone _) none made large = absurd large
+edited_too_large core entry next (edit.FeedAhead _) none made large = absurd large
 
 pub cause_too_large : (end lsn : ℕ) (entry : Entry) (fault : CoreFault) (count : ℕ) → IsTooLarge end lsn entry fault → EditCause {T = ℕ} (Err fault) count count
 cause_too_large end lsn entry edit.Memory count large = refl
@@ -149,33 +155,73 @@ cause_too_large end lsn entry (edit.Op refusal) count large = refl
 cause_too_large end lsn entry (edit.BaseFailed _) count large = refl
 cause_too_large end lsn entry (edit.LogFull size) count large = refl
 cause_too_large end lsn entry edit.DiskFault count large = absurd large
+cause_too_large end lsn entry (edit.FeedGone _) count large = absurd large
+cause_too_large end lsn entry (edit.FeedAhead _) count large = absurd large
 
--- the record was made, and the log was asked to take it
-pub edited_kept : {D : Type 0} (old new : Core D) (entry : Entry) (next : Plain) (payload : List ℕ) (result : Result ℕ CoreFault) → old.doubt ≡ None → apply old.base entry ≡ Ok next → payload ≡ record_of (old.base.version + 1) entry → Kept old new next payload result → Edited old new entry result
-edited_kept old new entry next payload (Ok version) none made bytes kept = (
+-- the core with another history
+abbrev pub with_history : {D : Type 0} → Core D → List Entry → Core D
+with_history core history = record core { history = history }
+
+-- the record was made and is safe
+pub edited_kept : {D : Type 0} (old new : Core D) (entry : Entry) (longer : List Entry) (next : Plain) (payload : List ℕ) (version : ℕ) → old.doubt ≡ None → apply old.base entry ≡ Ok next → payload ≡ record_of (old.base.version + 1) entry → longer ≡ old.history ++ entry ∷ [] → Kept (with_history old longer) new next payload (Ok version) → Edited old new entry (Ok version)
+edited_kept old new entry longer next payload version none made bytes pushed kept = (
   none,
   made ∙ ap Ok (sym kept.1),
   subst (λ it. size_with old.end it ≤ old.limits.log_bytes) bytes kept.0,
   kept.2 ∙ ap (λ (it : Plain). it.version) (sym kept.1),
   kept.3,
   kept.4,
+  kept.5 ∙ pushed,
+  kept.6,
 )
-edited_kept old new entry next payload (Err edit.Memory) none made bytes kept = kept
-edited_kept old new entry next payload (Err (edit.Op refusal)) none made bytes kept = absurd kept
-edited_kept old new entry next payload (Err (edit.BaseFailed count)) none made bytes kept = absurd kept
-edited_kept old new entry next payload (Err (edit.LogFull size)) none made bytes kept = (
+
+no_item : {X : Type 0} (items : List X) (item : X) → items ++ item ∷ [] ≢ []
+no_item [] item same = cc
+no_item (first ∷ items) item same = cc
+
+same_front : {X : Type 0} (was now : List X) (item last : X) → was ++ item ∷ [] ≡ now ++ last ∷ [] → now ≡ was
+same_front [] [] item last same = refl
+same_front [] (one ∷ now) item last same = absurd (no_item now last (cc))
+same_front (one ∷ was) [] item last same = absurd (no_item was item (cc))
+same_front (one ∷ was) (other ∷ now) item last same = let rest : was ++ item ∷ [] ≡ now ++ last ∷ [] = cc in let front = same_front was now item last rest in cc
+
+-- the item that came last goes again
+pub taken_back : {X : Type 0} (was longer now : List X) (item : X) (gone : Option X) → longer ≡ was ++ item ∷ [] → MatchOption gone ((longer ≡ []) × (now ≡ [])) (λ last. longer ≡ now ++ last ∷ []) → now ≡ was
+taken_back was longer now item None pushed went = absurd (no_item was item (sym pushed ∙ went.0))
+taken_back was longer now item (Some last) pushed went = same_front was now item last (sym pushed ∙ went)
+
+-- a log that didn't take the record changed no history
+pub same_history : {D : Type 0} (core kept : Core D) (next : Plain) (payload : List ℕ) (fault : CoreFault) → Kept core kept next payload (Err fault) → kept.history ≡ core.history
+same_history core kept next payload edit.Memory is = ap (λ (it : Core _). it.history) is
+same_history core kept next payload (edit.Op refusal) is = absurd is
+same_history core kept next payload (edit.BaseFailed count) is = absurd is
+same_history core kept next payload (edit.FeedGone _) is = absurd is
+same_history core kept next payload (edit.FeedAhead _) is = absurd is
+same_history core kept next payload (edit.LogFull size) is = ap (λ (it : Core _). it.history) is.2
+same_history core kept next payload edit.DiskFault is = is.4
+
+-- the record was made, and the log didn't take it
+pub edited_back : {D : Type 0} (old kept : Core D) (entry : Entry) (longer back : List Entry) (next : Plain) (payload : List ℕ) (fault : CoreFault) → old.doubt ≡ None → apply old.base entry ≡ Ok next → payload ≡ record_of (old.base.version + 1) entry → back ≡ old.history → Kept (with_history old longer) kept next payload (Err fault) → Edited old (with_history kept back) entry (Err fault)
+edited_back old kept entry longer back next payload edit.Memory none made bytes same is = ap (λ (it : Core _). with_history it back) is ∙ ap (with_history old) same
+edited_back old kept entry longer back next payload (edit.Op refusal) none made bytes same is = absurd is
+edited_back old kept entry longer back next payload (edit.BaseFailed count) none made bytes same is = absurd is
+edited_back old kept entry longer back next payload (edit.FeedGone _) none made bytes same is = absurd is
+edited_back old kept entry longer back next payload (edit.FeedAhead _) none made bytes same is = absurd is
+edited_back old kept entry longer back next payload (edit.LogFull size) none made bytes same is = (
   none,
   subst IsOk (sym made) refl,
-  kept.0 ∙ ap (λ it. size_with old.end it) bytes,
-  kept.1,
-  kept.2,
+  is.0 ∙ ap (λ it. size_with old.end it) bytes,
+  is.1,
+  ap (λ (it : Core _). with_history it back) is.2 ∙ ap (with_history old) same,
 )
-edited_kept old new entry next payload (Err edit.DiskFault) none made bytes kept = (
+edited_back old kept entry longer back next payload edit.DiskFault none made bytes same is = (
   none,
-  subst (λ it. size_with old.end it ≤ old.limits.log_bytes) bytes kept.0,
-  kept.1,
-  kept.2,
-  (kept.3.0, kept.3.1, made ∙ ap Ok (sym kept.3.2)),
+  subst (λ it. size_with old.end it ≤ old.limits.log_bytes) bytes is.0,
+  is.1,
+  is.2,
+  (is.3.0, is.3.1, made ∙ ap Ok (sym is.3.2)),
+  same,
+  is.5,
 )
 
 -- ---- the record of an entry

@@ -5,3 +5,5 @@ pub mod Editing
 pub mod Alike
 pub mod Gates
 pub mod Found
+pub mod Numbering
+pub mod Counting

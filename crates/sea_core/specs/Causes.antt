@@ -13,6 +13,8 @@ EditCause (Err core.Memory) before now = now ≡ before
 EditCause (Err (core.Op _)) before now = now ≡ before
 EditCause (Err (core.BaseFailed _)) before now = now ≡ before
 EditCause (Err (core.LogFull _)) before now = now ≡ before
+EditCause (Err (core.FeedGone _)) before now = ⊥
+EditCause (Err (core.FeedAhead _)) before now = ⊥
 EditCause (Ok _) before now = now ≡ before
 
 -- the same of a refused start

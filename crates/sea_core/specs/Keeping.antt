@@ -13,13 +13,16 @@ use Rattle.sea_core.specs.Stands.{StandsFor}
 abbrev pub Kept : {D : Type 0} → Core D → Core D → Plain → List ℕ → Result ℕ CoreFault → Type 0
 Kept old new next payload (Ok version) =
     (size_with old.end payload ≤ old.limits.log_bytes) × (new.base ≡ next) × (version ≡ next.version) × (new.doubt ≡ None) × (new.limits ≡ old.limits)
+    × (new.history ≡ old.history) × (new.opening ≡ old.opening)
 Kept old new next payload (Err (core.LogFull size)) = (size ≡ size_with old.end payload) × (old.limits.log_bytes < size) × (new ≡ old)
 Kept old new next payload (Err core.DiskFault) =
     (size_with old.end payload ≤ old.limits.log_bytes) × (new.base ≡ old.base) × (new.limits ≡ old.limits)
-    × ((doubt : Doubt) × (new.doubt ≡ Some doubt) × (doubt.base ≡ next))
+    × ((doubt : Doubt) × (new.doubt ≡ Some doubt) × (doubt.base ≡ next)) × (new.history ≡ old.history) × (new.opening ≡ old.opening)
 Kept old new next payload (Err core.Memory) = new ≡ old
 Kept old new next payload (Err (core.Op _)) = ⊥
 Kept old new next payload (Err (core.BaseFailed _)) = ⊥
+Kept old new next payload (Err (core.FeedGone _)) = ⊥
+Kept old new next payload (Err (core.FeedAhead _)) = ⊥
 
 -- the files stand for one of two bases
 abbrev pub StandsForEither : Plain → Plain → Files → Type 0

@@ -1,5 +1,6 @@
 pub mod Causes
 pub mod Edits
+pub mod Feeding
 pub mod Keeping
 pub mod Sound
 pub mod Stands

@@ -24,6 +24,8 @@ IsRefusedBy base entry (core.Op refusal) = apply base entry ≡ Err refusal
 IsRefusedBy base entry (core.BaseFailed _) = ⊥
 IsRefusedBy base entry (core.LogFull _) = ⊥
 IsRefusedBy base entry core.DiskFault = ⊥
+IsRefusedBy base entry (core.FeedGone _) = ⊥
+IsRefusedBy base entry (core.FeedAhead _) = ⊥
 
 -- the bytes are the record of an entry, whose fields have places in it
 pub record IsRecordOf (lsn : ℕ) (entry : Entry) (payload : List ℕ) : Type 0 where
@@ -39,6 +41,8 @@ IsTooLarge end lsn entry (core.Op _) = ⊥
 IsTooLarge end lsn entry (core.BaseFailed _) = ⊥
 IsTooLarge end lsn entry (core.LogFull size) = (size ≡ size_with end (record_of lsn entry)) × (268435456 < size)
 IsTooLarge end lsn entry core.DiskFault = ⊥
+IsTooLarge end lsn entry (core.FeedGone _) = ⊥
+IsTooLarge end lsn entry (core.FeedAhead _) = ⊥
 
 -- the count of all faults rose where the answer is a fault of the disk, and stands as it was with every other answer
 abbrev pub CountsStart : {T : Type 0} → Result T StartFault → ℕ → ℕ → Type 0

@@ -4,7 +4,7 @@ use sea_log::LogFault;
 use sea_plain::OpRefusal;
 use std::alloc::AllocError;
 
-/// Why an entry is refused.
+/// Why an entry or a feed is refused.
 #[derive(Drop)]
 pub enum CoreFault {
     /// Memory ran out; nothing has changed.
@@ -18,6 +18,10 @@ pub enum CoreFault {
     LogFull { size: u64 },
     /// A call of the disk failed. The entry is in doubt until the base is started again.
     DiskFault,
+    /// A feed asks for entries from before the opening, when the base had the version `opening`.
+    FeedGone { opening: u64 },
+    /// A feed asks for entries behind a version that the base doesn't have yet; it has `version`.
+    FeedAhead { version: u64 },
 }
 
 impl From<AllocError> for CoreFault {

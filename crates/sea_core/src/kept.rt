@@ -7,11 +7,16 @@ ghost use Rattle.sea_ops.specs.Operations.{op_of};
 use crate::fault::CoreFault;
 use crate::limits::Limits;
 use crate::preparing::{next_base, record_of_next};
+use sea_cell::Shared;
 use sea_disk::{Disk, File};
 use sea_log::{LogFault, append};
 use sea_ops::texts_are_forms;
 use sea_plain::{Entry, Plain};
+use sqlite_items::Items;
 use std::alloc::Global;
+
+/// Entries in the order in which they were accepted. A copy shares them.
+pub type History = Items<Shared<Entry>>;
 
 /// An entry that a fault of the disk left in doubt: whether its record is found is known once the base is started again.
 #[derive(Drop)]
@@ -30,6 +35,10 @@ pub struct Core<D> {
     pub base: Plain,
     /// The entry in doubt, where there is one. The base then takes no entry.
     pub doubt: Option<Doubt>,
+    /// The version of the base when it was opened.
+    pub opening: u64,
+    /// The entries that were acknowledged since.
+    pub history: History,
     /// The place of the gate that ends the log.
     pub end: u64,
     pub limits: Limits,
@@ -64,7 +73,15 @@ impl<D: Disk> Core<D> {
         }
         let next = next_base(self.alloc, &self.base, &entry)?;
         let payload = record_of_next(self.alloc, next.version, &entry, self.end)?;
-        self.keep(next, payload.as_slice())
+        // What takes memory comes before the first call of the disk.
+        self.history.push(Shared::new(self.alloc, entry)?)?;
+        match self.keep(next, payload.as_slice()) {
+            Ok(version) => Ok(version),
+            Err(fault) => {
+                let _entry = self.history.pop();
+                Err(fault)
+            }
+        }
     }
 
     // Makes the record of the next base safe, and then that base the present one.
@@ -112,6 +129,8 @@ impl<D: Disk> Core<D> {
             disk,
             base: _,
             doubt: _,
+            opening: _,
+            history: _,
             end: _,
             limits: _,
         } = self;

@@ -7,6 +7,7 @@
 #![tactic(auto)]
 
 mod fault;
+mod feeding;
 mod kept;
 mod laws;
 mod limits;
@@ -19,6 +20,7 @@ mod start;
 mod tests;
 
 pub use fault::{CoreFault, StartFault};
-pub use kept::{Core, Doubt};
-pub use laws::one_base_at_most;
+pub use feeding::{Feed, FeedEntries, FeedEntry};
+pub use kept::{Core, Doubt, History};
+pub use laws::{each_version_has_its_entry, one_base_at_most};
 pub use limits::Limits;

@@ -1,5 +1,5 @@
 // Starting a base from a disk.
-ghost use Rattle.std.specs.Prelude.{◌≡◌, ◌≤◌, None, IfOk, IfErr, IsErrOf, MatchResult};
+ghost use Rattle.std.specs.Prelude.{◌≡◌, ◌≤◌, [], None, IfOk, IfErr, IsErrOf, MatchResult};
 ghost use Rattle.sea_disk.specs.Runs.{Leaves};
 ghost use Rattle.sea_plain.specs.declared.base.Plain.{Plain};
 ghost use Rattle.sea_core.specs.declared.fault.StartFault.TheVariants.{NotABase};
@@ -15,6 +15,7 @@ use crate::reading::read_base;
 use crate::settling::settle;
 use sea_disk::Disk;
 use sea_plain::Plain;
+use sqlite_items::Items;
 use std::alloc::Global;
 
 impl<D: Disk> Core<D> {
@@ -29,7 +30,7 @@ impl<D: Disk> Core<D> {
     pub fn start(alloc: Global, disk: D, limits: Limits) -> Result<Core<D>, (StartFault, D)>
         ensures found { D.told → IfOk result (λ core. StandsFor core.base (D.shows disk).seen) }
         ensures sound { D.told → IfOk result (λ core. IsSound D.shows core) }
-        ensures fresh { IfOk result (λ core. (core.doubt ≡ None) × (core.limits ≡ limits)) }
+        ensures fresh { IfOk result (λ core. (core.doubt ≡ None) × (core.limits ≡ limits) × (core.history ≡ []) × (core.opening ≡ core.base.version)) }
         ensures no_base { D.told → IfErr result (λ refused. refused.0 ≡ NotABase → (base : Plain) → ¬ StandsFor base (D.shows disk).seen) }
         ensures any_moment { D.told → IfOk result (λ core. Leaves (D.shows disk) (D.shows core.disk) (KeepsStanding (D.shows disk))) }
         ensures any_moment_refused { D.told → IfErr result (λ refused. Leaves (D.shows disk) (D.shows refused.1) (KeepsStanding (D.shows disk))) }
@@ -41,8 +42,10 @@ impl<D: Disk> Core<D> {
             Ok((base, end)) => Ok(Core {
                 alloc,
                 disk,
+                opening: base.version,
                 base,
                 doubt: None,
+                history: Items::new(alloc),
                 end,
                 limits,
             }),

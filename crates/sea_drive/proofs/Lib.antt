@@ -1,7 +1,9 @@
 pub mod AskedLaws
+pub mod FeedsLaws
 pub mod TextsLaws
 pub mod ReplyLaws
 pub mod LinesOf
+pub mod Counts
 pub mod LinesBuffer
 pub mod LinesSteps
 pub mod LinesLaws

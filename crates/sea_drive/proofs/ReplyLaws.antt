@@ -10,10 +10,14 @@ use Rattle.sea_cell.specs.declared.values.CellValue.{CellValue}
 use Rattle.sea_cell.specs.declared.values.CellValue.TheVariants as cell
 use Rattle.sea_plain.specs.declared.refusal.OpRefusal.{OpRefusal}
 use Rattle.sea_plain.specs.declared.refusal.OpRefusal.TheVariants as op
+use Rattle.sea_plain.specs.declared.operation.Op.{Op}
+use Rattle.sea_ops.specs.Texts.{json_of as op_json}
+use Rattle.sea_core.specs.declared.feeding.FeedEntry.{FeedEntry}
+use Rattle.sea_drive.specs.Fed.{entry_json}
 use Rattle.sea_drive.specs.Refused.{refusal_json}
 use Rattle.sea_drive.specs.Reply.{row_json, outcome_json, outcome_line}
 use Rattle.sea_drive.specs.declared.outcome.LineOutcome.{LineOutcome}
-use Rattle.sea_drive.specs.declared.outcome.LineOutcome.TheVariants.{Silent, Version, Reopened, Rows, Refusal, BaseFailed, LogFull, DiskFault, NotABase, BadLine, NotYet}
+use Rattle.sea_drive.specs.declared.outcome.LineOutcome.TheVariants.{Silent, Version, Reopened, Rows, Fed, FeedGone, FeedAhead, Refusal, BaseFailed, LogFull, DiskFault, NotABase, BadLine, NotYet}
 
 texts_float : (texts : List (List ℕ)) → items_have_float (items_of (map string texts)) ≡ false
 texts_float [] = refl
@@ -67,24 +71,38 @@ refusal_float (op.LinkExists _) = refl
 refusal_float (op.NoLink _) = refl
 refusal_float (op.FirstColumn _) = refl
 
-pub outcome_float : (outcome : LineOutcome) → has_float (outcome_json outcome) ≡ false
-outcome_float Silent = refl
-outcome_float (Version _) = refl
-outcome_float (Rows answer) = rw (texts_float answer.columns, rows_float answer.rows) refl
-outcome_float (Refusal refusal) = refusal_float refusal
-outcome_float (Reopened _) = refl
-outcome_float (BaseFailed _) = refl
-outcome_float (LogFull _) = refl
-outcome_float DiskFault = refl
-outcome_float NotABase = refl
-outcome_float BadLine = refl
-outcome_float NotYet = refl
+-- the value of an operation has none
+abbrev pub NoFloatInOps : Type 0
+NoFloatInOps = (op : Op) → has_float (op_json op) ≡ false
+
+entries_float : NoFloatInOps → (entries : List FeedEntry) → items_have_float (items_of (map entry_json entries)) ≡ false
+entries_float ops [] = refl
+entries_float ops (fed ∷ entries) = rw (ops fed.entry.op, entries_float ops entries) refl
+
+pub outcome_float : NoFloatInOps → (outcome : LineOutcome) → has_float (outcome_json outcome) ≡ false
+outcome_float ops Silent = refl
+outcome_float ops (Version _) = refl
+outcome_float ops (Rows answer) = rw (texts_float answer.columns, rows_float answer.rows) refl
+outcome_float ops (Fed feed) = rw (entries_float ops feed.entries) refl
+outcome_float ops (FeedGone _) = refl
+outcome_float ops (FeedAhead _) = refl
+outcome_float ops (Refusal refusal) = refusal_float refusal
+outcome_float ops (Reopened _) = refl
+outcome_float ops (BaseFailed _) = refl
+outcome_float ops (LogFull _) = refl
+outcome_float ops DiskFault = refl
+outcome_float ops NotABase = refl
+outcome_float ops BadLine = refl
+outcome_float ops NotYet = refl
 
 -- an outcome with a reply
 pub line-shown : (outcome : LineOutcome) → outcome ≢ Silent → outcome_line outcome ≡ compact_text (outcome_json outcome) ++ 10 ∷ []
 line-shown Silent h = absurd (h refl)
 line-shown (Version _) h = refl
 line-shown (Rows _) h = refl
+line-shown (Fed _) h = refl
+line-shown (FeedGone _) h = refl
+line-shown (FeedAhead _) h = refl
 line-shown (Refusal _) h = refl
 line-shown (Reopened _) h = refl
 line-shown (BaseFailed _) h = refl

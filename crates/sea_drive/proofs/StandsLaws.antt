@@ -24,7 +24,7 @@ use Rattle.sea_core.specs.declared.fault.StartFault.TheVariants as start
 use Rattle.sea_drive.specs.Steps.{EditsText, Refuses, IsFoundAgain, VerbStep, LineStep}
 use Rattle.sea_drive.specs.Texts.{without_return}
 use Rattle.sea_drive.specs.declared.asked.Verb.{Verb}
-use Rattle.sea_drive.specs.declared.asked.Verb.TheVariants.{Nothing, Unknown, Later, Edit, Select, Reopen}
+use Rattle.sea_drive.specs.declared.asked.Verb.TheVariants.{Nothing, Unknown, Later, Edit, Select, Feed, Reopen}
 use Rattle.sea_drive.specs.declared.line.Played.TheVariants.{On, Refused}
 use Rattle.sea_drive.specs.declared.outcome.LineOutcome.{LineOutcome}
 
@@ -97,6 +97,8 @@ module _ {D : Type 0} (told : Type 0) (shows : D â†’ Shown) (law : (disk : D) â†
       record { leaves = leaves_weaker leaves (Î» files. with_entry old new entry files doubt.base applied (doubt_stands new files doubt is)); sound = sound }
   edits_kept old new entry (Err edit_fault.Memory) edited leaves sound before = stays_kept old new before edited
   edits_kept old new entry (Err (edit_fault.Op refusal)) edited leaves sound before = stays_kept old new before edited.2
+  edits_kept old new entry (Err (edit_fault.FeedGone _)) edited leaves sound before = absurd edited
+  edits_kept old new entry (Err (edit_fault.FeedAhead _)) edited leaves sound before = absurd edited
   edits_kept old new entry (Err (edit_fault.BaseFailed count)) edited leaves sound before = stays_kept old new before edited.1
   edits_kept old new entry (Err (edit_fault.LogFull size)) edited leaves sound before = stays_kept old new before edited.4
 
@@ -121,6 +123,8 @@ module _ {D : Type 0} (told : Type 0) (shows : D â†’ Shown) (law : (disk : D) â†
       by_op (Some op) (moment, tells, edited) = edits_kept old new (entry_of moment op) edited.answer edited.edited (edited.any_moment is sound) (edited.sound is sound) sound
   verb_kept clock old new Select rest result (inl wants) is sound = stays_kept old new sound wants.1
   verb_kept clock old new Select rest result (inr asked) is sound = stays_kept old new sound asked.1
+  verb_kept clock old new Feed rest result (inl wants) is sound = stays_kept old new sound wants.1
+  verb_kept clock old new Feed rest result (inr asked) is sound = stays_kept old new sound asked.1
   verb_kept clock old new Reopen rest result reopens is sound = record {
     leaves = leaves_weaker (reopens.starts.any_moment is) (Î» files keeps. inl (alike_stands old sound files keeps));
     sound = reopens.starts.sound is;
@@ -137,6 +141,7 @@ module _ {D : Type 0} (told : Type 0) (shows : D â†’ Shown) (law : (disk : D) â†
   verb_refused clock old Later rest fault back step = absurd step
   verb_refused clock old Edit rest fault back step = absurd step
   verb_refused clock old Select rest fault back step = absurd step
+  verb_refused clock old Feed rest fault back step = absurd step
   verb_refused clock old Reopen rest fault back step = step
 
   -- only a reopening leaves the disk alone, and then its start was refused

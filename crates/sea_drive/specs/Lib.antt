@@ -1,4 +1,6 @@
 pub mod Asked
+pub mod Fed
+pub mod Feeds
 pub mod Lines
 pub mod Outcome
 pub mod Play

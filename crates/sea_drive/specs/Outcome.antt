@@ -13,7 +13,7 @@ use Rattle.sea_core.specs.declared.fault.CoreFault.TheVariants as edit_fault
 use Rattle.sea_core.specs.declared.fault.StartFault.{StartFault}
 use Rattle.sea_core.specs.declared.fault.StartFault.TheVariants as start
 use Rattle.sea_drive.specs.declared.outcome.LineOutcome.{LineOutcome}
-use Rattle.sea_drive.specs.declared.outcome.LineOutcome.TheVariants.{Version, Rows, Refusal, BaseFailed, LogFull, DiskFault, NotABase, NotYet}
+use Rattle.sea_drive.specs.declared.outcome.LineOutcome.TheVariants.{Version, Rows, FeedGone, FeedAhead, Refusal, BaseFailed, LogFull, DiskFault, NotABase, NotYet}
 use Rattle.sea_drive.specs.Select.{answer_of}
 
 -- the entry of an operation that is made now, by the user of scripts
@@ -28,6 +28,8 @@ edit_outcome (Err (edit_fault.Op fault)) = Some (Refusal fault)
 edit_outcome (Err (edit_fault.BaseFailed count)) = Some (BaseFailed count)
 edit_outcome (Err (edit_fault.LogFull size)) = Some (LogFull size)
 edit_outcome (Err edit_fault.DiskFault) = Some DiskFault
+edit_outcome (Err (edit_fault.FeedGone opening)) = Some (FeedGone opening)
+edit_outcome (Err (edit_fault.FeedAhead version)) = Some (FeedAhead version)
 
 -- what comes of a refused reopening
 abbrev pub start_outcome : StartFault → Option LineOutcome

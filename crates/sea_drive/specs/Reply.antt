@@ -6,7 +6,8 @@ use Rattle.serde_json.specs.Written.{compact_text}
 use Rattle.sea_cell.specs.Conversion.{json_of}
 use Rattle.sea_cell.specs.declared.values.CellValue.{CellValue}
 use Rattle.sea_drive.specs.declared.outcome.LineOutcome.{LineOutcome}
-use Rattle.sea_drive.specs.declared.outcome.LineOutcome.TheVariants.{Silent, Version, Reopened, Rows, Refusal, BaseFailed, LogFull, DiskFault, NotABase, BadLine, NotYet}
+use Rattle.sea_drive.specs.declared.outcome.LineOutcome.TheVariants.{Silent, Version, Reopened, Rows, Fed, FeedGone, FeedAhead, Refusal, BaseFailed, LogFull, DiskFault, NotABase, BadLine, NotYet}
+use Rattle.sea_drive.specs.Fed.{feed_json, gone_json, ahead_json}
 use Rattle.sea_drive.specs.Refused.{error_json, refusal_json}
 
 -- an array of texts
@@ -32,6 +33,9 @@ outcome_json (Version version) = number_json (codes "version") version
 outcome_json (Reopened version) = number_json (codes "reopened") version
 outcome_json (Rows answer) =
     object (member (codes "columns") (texts_json answer.columns) (member (codes "rows") (rows_json answer.rows) no_members))
+outcome_json (Fed feed) = feed_json feed
+outcome_json (FeedGone opening) = gone_json opening
+outcome_json (FeedAhead version) = ahead_json version
 outcome_json (Refusal refusal) = refusal_json refusal
 outcome_json (BaseFailed count) = object (member (codes "count") (number (unsigned count)) (member (codes "error") (string (codes "BaseFailed")) no_members))
 outcome_json (LogFull size) = object (member (codes "error") (string (codes "LogFull")) (member (codes "size") (number (unsigned size)) no_members))

@@ -1,5 +1,5 @@
 -- What a line makes of a core, where `told` and `shows` are of its disk, and `clock` is what the clock tells.
-use Rattle.std.specs.Prelude.{◌≡◌, ◌⊎◌, true, ℕ, ◌≤◌, ℤ, List, Option, Some, None, Result}
+use Rattle.std.specs.Prelude.{◌≡◌, ◌⊎◌, true, ℕ, ◌≤◌, ℤ, List, [], Option, Some, None, Result}
 use Rattle.sea_edge.specs.Minutes.{Tells}
 use Rattle.sea_disk.specs.Shown.{Shown}
 use Rattle.sea_disk.specs.Calls.{Rose}
@@ -20,12 +20,13 @@ use Rattle.sea_core.specs.Edits.{Edited}
 use Rattle.sea_core.specs.Sound.{IsSound, StandsWithOrWithout}
 use Rattle.sea_core.specs.Stands.{StandsFor, KeepsStanding}
 use Rattle.sea_drive.specs.declared.asked.Verb.{Verb}
-use Rattle.sea_drive.specs.declared.asked.Verb.TheVariants.{Nothing, Unknown, Later, Edit, Select, Reopen}
+use Rattle.sea_drive.specs.declared.asked.Verb.TheVariants.{Nothing, Unknown, Later, Edit, Select, Feed, Reopen}
 use Rattle.sea_drive.specs.declared.line.Played.{Played}
 use Rattle.sea_drive.specs.declared.line.Played.TheVariants.{On, Refused}
 use Rattle.sea_drive.specs.declared.outcome.LineOutcome.{LineOutcome}
 use Rattle.sea_drive.specs.declared.outcome.LineOutcome.TheVariants as outcome
 use Rattle.sea_drive.specs.Asked.{asked_by}
+use Rattle.sea_drive.specs.Feeds.{feed_words, feed_outcome}
 use Rattle.sea_drive.specs.Outcome.{entry_of, edit_outcome, select_outcome, is_disk_fault}
 use Rattle.sea_drive.specs.Select.{select_of}
 use Rattle.sea_drive.specs.Texts.{without_return}
@@ -54,6 +55,8 @@ pub record Starts {D : Type 0} (told : Type 0) (shows : D → Shown) (disk : D) 
   pub sound : told → IsSound shows core
   pub whole : core.doubt ≡ None
   pub same_limits : core.limits ≡ limits
+  pub no_history : core.history ≡ []
+  pub opening : core.opening ≡ core.base.version
   pub any_moment : told → Leaves (shows disk) (shows core.disk) (KeepsStanding (shows disk))
 
 -- A start was refused.
@@ -72,7 +75,7 @@ pub record Reopens {D : Type 0} (told : Type 0) (shows : D → Shown) (core : Co
   pub starts : Starts told shows core.disk core.limits new
   pub found : told → IsSound shows core → IsFoundAgain core.base core.doubt new.base
 
--- What a line comes to, by what it asks for. Only the last three meet want of memory, and a refused reopening leaves the
+-- What a line comes to, by what it asks for. Only the last four meet want of memory, and a refused reopening leaves the
 -- disk alone.
 abbrev pub VerbStep : {D : Type 0} → Option ℤ → Type 0 → (D → Shown) → Core D → Verb → List ℕ → Played D → Type 0
 VerbStep clock told shows core Nothing rest (On result new) = Stays core (Some outcome.Silent) result new
@@ -80,6 +83,7 @@ VerbStep clock told shows core Unknown rest (On result new) = Stays core (Some o
 VerbStep clock told shows core Later rest (On result new) = Stays core (Some outcome.NotYet) result new
 VerbStep clock told shows core Edit rest (On result new) = Stays core None result new ⊎ EditsText clock told shows core (op_of rest) result new
 VerbStep clock told shows core Select rest (On result new) = Stays core None result new ⊎ Stays core (Some (select_outcome core.base (select_of rest))) result new
+VerbStep clock told shows core Feed rest (On result new) = Stays core None result new ⊎ Stays core (feed_outcome core (feed_words rest)) result new
 VerbStep clock told shows core Reopen rest (On result new) = Reopens told shows core result new
 VerbStep clock told shows core Reopen rest (Refused fault back) = Refuses told shows core.disk fault back
 VerbStep clock told shows core _ rest (Refused fault back) = ⊥

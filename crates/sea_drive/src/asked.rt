@@ -4,6 +4,8 @@ ghost use Rattle.std.specs.List.{list_any, before_first, after_first};
 ghost use Rattle.std.specs.Str.{bytes_eq};
 ghost use Rattle.sea_drive.specs.Asked.{asked_by as asked_of, is_silent as is_silent_of, later_words, verb_of as verb_in, with_rest as with_rest_of};
 
+use crate::texts::split_word;
+
 /// What a line asks for.
 #[derive(Clone, Copy)]
 pub enum Verb {
@@ -17,16 +19,17 @@ pub enum Verb {
     Edit,
     /// A select, whose text follows.
     Select,
+    /// A feed, whose two numbers follow.
+    Feed,
     /// That the base is found again from its files.
     Reopen,
 }
 
 /// The words of the lines that aren't built yet.
-const LATER_WORDS: [&str; 16] = [
+const LATER_WORDS: [&str; 15] = [
     "open",
     "read",
     "close",
-    "feed",
     "state",
     "archive",
     "put",
@@ -63,17 +66,6 @@ fn is_silent(text: &[u8]) -> bool
     text.is_empty() || text[0] == b'#'
 }
 
-// The first word of a line, and what stands behind the space after it.
-fn split_word(text: &str) -> (&str, &str)
-    ensures word { result.0.now ≡ before_first (λ byte. byte == 32) text.now }
-    ensures rest { result.1.now ≡ after_first (λ byte. byte == 32) text.now }
-{
-    match text.split_once(' ') {
-        Some(parts) => parts,
-        None => (text, ""),
-    }
-}
-
 // What a line of this first word asks for.
 fn verb_of(word: &str, text: &str) -> Verb
     ensures { result ≡ verb_in word.now text.now }
@@ -83,6 +75,9 @@ fn verb_of(word: &str, text: &str) -> Verb
     }
     if "sql" == word {
         return with_rest(Verb::Select, word, text);
+    }
+    if "feed" == word {
+        return with_rest(Verb::Feed, word, text);
     }
     if "reopen" == text {
         return Verb::Reopen;

@@ -7,6 +7,8 @@
 mod asked;
 mod command;
 mod ending;
+mod fed;
+mod feed;
 mod line;
 mod lines;
 mod outcome;

@@ -1,5 +1,6 @@
 // What comes of a line.
 use sea_cell::{CellValue, Texts};
+use sea_core::Feed;
 use sea_plain::OpRefusal;
 use sqlite_items::Items;
 
@@ -27,6 +28,12 @@ pub enum LineOutcome {
     Reopened(u64),
     /// The answer of a select.
     Rows(Answer),
+    /// The answer of a feed.
+    Fed(Feed),
+    /// A feed asks for entries from before the opening, when the base had this version.
+    FeedGone(u64),
+    /// A feed asks for entries behind a version that the base doesn't have yet; it has this one.
+    FeedAhead(u64),
     /// The base refuses the operation, or a select names no table.
     Refusal(OpRefusal),
     /// The disk failed in an earlier write, and so many of its calls had failed then. The base takes no operation until

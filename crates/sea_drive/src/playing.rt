@@ -9,6 +9,7 @@ ghost use Rattle.sea_drive.specs.Select.{select_of};
 ghost use Rattle.sea_drive.specs.Steps.{LineStep, VerbStep, Stays, Edits, EditsText, Counted};
 
 use crate::asked::{Verb, asked_by};
+use crate::feed::play_feed;
 use crate::line::Played;
 use crate::outcome::LineOutcome;
 use crate::select::{answer_of, table_of_select};
@@ -60,6 +61,10 @@ fn play_verb<D: Disk, C: Clock>(
         }
         Verb::Select => {
             let outcome = play_select(alloc, &core.base, rest);
+            Played::On(outcome, core)
+        }
+        Verb::Feed => {
+            let outcome = play_feed(&core, rest);
             Played::On(outcome, core)
         }
         Verb::Reopen => reopen(alloc, core),
@@ -124,6 +129,8 @@ fn edit_outcome(answer: Result<u64, CoreFault>) -> Option<LineOutcome>
         Err(CoreFault::BaseFailed { count }) => Some(LineOutcome::BaseFailed(count)),
         Err(CoreFault::LogFull { size }) => Some(LineOutcome::LogFull(size)),
         Err(CoreFault::DiskFault) => Some(LineOutcome::DiskFault),
+        Err(CoreFault::FeedGone { opening }) => Some(LineOutcome::FeedGone(opening)),
+        Err(CoreFault::FeedAhead { version }) => Some(LineOutcome::FeedAhead(version)),
     }
 }
 

@@ -5,9 +5,11 @@ ghost use Rattle.serde_json.specs.Data.{string};
 ghost use Rattle.serde_json.specs.View.{view};
 ghost use Rattle.sea_drive.specs.Reply.{texts_json as texts_json_of, row_json as row_json_of, rows_json as rows_json_of, outcome_json as outcome_json_of, outcome_line, reply_line};
 
+use crate::fed::{ahead_json, feed_json, gone_json};
 use crate::outcome::{Answer, AnswerRow, LineOutcome};
 use crate::refused::{error_json, refusal_json};
 use sea_cell::{CellValue, Text, json_of_cell};
+use sea_ops::operations_have_no_float;
 use serde_json::{Value, json};
 use std::alloc::{AllocError, Global};
 
@@ -27,6 +29,7 @@ pub fn line_of(alloc: Global, outcome: &LineOutcome) -> Result<Vec<u8>, AllocErr
     if let LineOutcome::Silent = outcome {
         return Ok(Vec::new(alloc));
     }
+    operations_have_no_float();
     let mut line = outcome_json(alloc, outcome)?.to_vec(alloc)?;
     line.push(b'\n')?;
     Ok(line)
@@ -41,6 +44,9 @@ fn outcome_json(alloc: Global, outcome: &LineOutcome) -> Result<Value, AllocErro
         LineOutcome::Version(version) => version_json(alloc, *version),
         LineOutcome::Reopened(version) => reopened_json(alloc, *version),
         LineOutcome::Rows(answer) => answer_json(alloc, answer),
+        LineOutcome::Fed(feed) => feed_json(alloc, feed),
+        LineOutcome::FeedGone(opening) => gone_json(alloc, *opening),
+        LineOutcome::FeedAhead(version) => ahead_json(alloc, *version),
         LineOutcome::Refusal(refusal) => refusal_json(alloc, refusal),
         LineOutcome::BaseFailed(count) => failed_json(alloc, *count),
         LineOutcome::LogFull(size) => full_json(alloc, *size),

@@ -20,7 +20,7 @@ mod writing;
 
 pub use checking::{RowsSeen, check};
 pub use fault::OpFault;
-pub use laws::{records_have_one_entry, texts_are_forms};
+pub use laws::{operations_have_no_float, records_have_one_entry, texts_are_forms};
 pub use reading::op_of_json;
 pub use record::{entry_of_record, record_of_entry};
-pub use writing::op_text;
+pub use writing::{op_json, op_text};

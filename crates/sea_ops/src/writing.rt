@@ -23,8 +23,8 @@ pub fn op_text(alloc: Global, op: &Op) -> Result<Bytes, AllocError>
     Ok(Bytes::from(bytes))
 }
 
-// The JSON value of an operation.
-fn op_json(alloc: Global, op: &Op) -> Result<Value, AllocError>
+/// The JSON value of an operation.
+pub fn op_json(alloc: Global, op: &Op) -> Result<Value, AllocError>
     ensures { IfOk result (λ json. view json ≡ json_of op.now) }
 {
     match op {

@@ -151,8 +151,8 @@ fn a_stop_within_a_start_changes_nothing(rt: HostRuntime) -> Result<(), Fail> {
     Ok(())
 }
 
-// The replies of lines on a disk, one call of which fails.
-fn replies(
+// The status and the replies of lines on a blank disk, one call of which fails, and how many calls it got.
+pub fn replies(
     alloc: Global,
     lines: &[&str],
     fails: u64,

@@ -79,6 +79,8 @@ fn open_folder<R: Files<File = File>>(
 }
 
 #[cfg(test)]
+mod feeds;
+#[cfg(test)]
 mod kept;
 #[cfg(test)]
 mod links;

@@ -40,6 +40,8 @@ turns-init g c =
         sound = λ told. c.in-Ok-start.ensures.sound told;
         whole = c.in-Ok-start.ensures.fresh.0;
         same_limits = c.in-Ok-start.ensures.fresh.1;
+        no_history = c.in-Ok-start.ensures.fresh.2;
+        opening = c.in-Ok-start.ensures.fresh.3;
         any_moment = λ told. c.in-Ok-start.ensures.any_moment told;
       });
       clock = refl;

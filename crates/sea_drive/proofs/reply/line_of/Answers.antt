@@ -14,5 +14,5 @@ unfolding reply_line
 returns c =
     let outcome = c.args.outcome.now in
     let shown = c.in_ok-outcome_json.ensures in
-    let text = c.in_ok-line.ensures.text (ap has_float shown ∙ outcome_float outcome) ∙ ap compact_text shown in
+    let text = c.in_ok-line.ensures.text (ap has_float shown ∙ outcome_float c.operations_have_no_float.ensures outcome) ∙ ap compact_text shown in
     c.in_ok-push.ensures.items ∙ ap (λ (bytes : List ℕ). bytes ++ 10 ∷ []) text ∙ sym (line-shown outcome c.in_default.not-Silent)

@@ -8,7 +8,7 @@ use Rattle.sea_core.proofs.kept.Core.keep.Goals as goal
 pub returns-in-Ok-clause-kept : goal.returns-in-Ok-clause-kept
 returns-in-Ok-clause-kept g c =
     let size = size_with c.args.self.now.end c.args.payload.now in
-    (within_limit (Ok c.in-Ok.place) size c.args.self.now.limits.log_bytes (λ large. (c.in-Ok.ensures.full size).1 (refl, large)) (λ e. cc), refl, refl, c.requires, refl)
+    (within_limit (Ok c.in-Ok.place) size c.args.self.now.limits.log_bytes (λ large. (c.in-Ok.ensures.full size).1 (refl, large)) (λ e. cc), refl, refl, c.requires, refl, refl, refl)
 
 pub returns-in-Ok-clause-any_moment : goal.returns-in-Ok-clause-any_moment
 returns-in-Ok-clause-any_moment g c told takes sound =
@@ -26,7 +26,7 @@ returns-in-Ok-clause-sound g c told takes sound =
 pub returns-in-Err-DiskFault-clause-kept : goal.returns-in-Err-DiskFault-clause-kept
 returns-in-Err-DiskFault-clause-kept g c =
     let size = size_with c.args.self.now.end c.args.payload.now in
-    (within_limit (Err c.in-Err-DiskFault.field-0) size c.args.self.now.limits.log_bytes (λ large. (c.in-Err-DiskFault.ensures.full size).1 (refl, large)) (λ e. cc), refl, refl, (record { base = c.args.next; count = c.faults-count.result }, refl, refl))
+    (within_limit (Err c.in-Err-DiskFault.field-0) size c.args.self.now.limits.log_bytes (λ large. (c.in-Err-DiskFault.ensures.full size).1 (refl, large)) (λ e. cc), refl, refl, (record { base = c.args.next; count = c.faults-count.result }, refl, refl), refl, refl)
 
 pub returns-in-Err-DiskFault-clause-any_moment : goal.returns-in-Err-DiskFault-clause-any_moment
 returns-in-Err-DiskFault-clause-any_moment g c told takes sound =
