@@ -100,10 +100,7 @@ fn sort_takes(sort: Sort, test: Test) -> bool
     ensures { result ≡ sort_takes_of sort test }
 {
     match test {
-        Test::Is => matches!(
-            sort,
-            Sort::Text | Sort::Number | Sort::Check | Sort::Moment
-        ),
+        Test::Is => matches!(sort, Sort::Text | Sort::Number | Sort::Check | Sort::Moment),
         Test::IsNot => matches!(sort, Sort::Text | Sort::Number | Sort::Moment),
         Test::Contains | Test::DoesNotContain => matches!(sort, Sort::Text),
         Test::Less | Test::LessOrEqual | Test::Greater | Test::GreaterOrEqual => {

@@ -566,49 +566,52 @@ fn term_shown(term: Option<&Term>) -> &'static str {
 fn filters_that_fit_a_column(rt: HostRuntime) -> Result<(), Fail> {
     let alloc = rt.alloc();
     words_name_tests();
-    for (kind, predicate, term, found) in [
-        ("text", "is", "\"x\"", "cell"),
-        ("text", "is", "\"\"", "none"),
-        ("text", "is", "null", "none"),
-        ("text", "is", "1", "none"),
-        ("text", "contains", "\"x\"", "cell"),
-        ("text", "contains", "\"\"", "none"),
-        ("text", "less", "\"x\"", "none"),
-        ("text", "has_any_of", "[]", "none"),
-        ("text", "is_empty", "null", "nothing"),
-        ("text", "is_empty", "\"\"", "none"),
-        ("text", "IS", "\"x\"", "none"),
-        ("long-text", "does_not_contain", "\"x\"", "cell"),
-        ("number", "greater_or_equal", "-3", "cell"),
-        ("number", "is_not", "1.5", "none"),
-        ("number", "is", "1000000000001", "none"),
-        ("number", "contains", "\"1\"", "none"),
-        ("checkbox", "is", "false", "cell"),
-        ("checkbox", "is", "null", "none"),
-        ("checkbox", "is_not", "true", "none"),
-        ("date", "less_or_equal", "\"2024-02-29\"", "cell"),
-        ("date", "is", "\"2023-02-29\"", "none"),
-        ("single-select", "is_not", "\"no option\"", "cell"),
-        ("single-select", "is", "\"\"", "none"),
-        ("single-select", "contains", "\"o\"", "cell"),
-        ("multiple-select", "has_all_of", "[\"no option\"]", "items"),
-        ("multiple-select", "is_exactly", "[]", "items"),
-        ("multiple-select", "is", "[\"a\"]", "none"),
-        ("collaborator", "has_none_of", "[\"Ann\"]", "items"),
-        ("collaborator", "has_any_of", "\"Ann\"", "none"),
-        ("link", "is_empty", "null", "none"),
-        ("link", "has_any_of", "[\"a\"]", "none"),
-        ("ctime", "greater", "\"2024-02-29 08:30\"", "cell"),
-        ("mtime", "is", "null", "none"),
-        ("mtime", "is_not_empty", "null", "nothing"),
+    assert!(rt; test_of_word("less_or_equal").is_some());
+    assert!(rt; test_of_word("Less").is_none());
+    for (kind, test, term, found) in [
+        ("text", Test::Is, "\"x\"", "cell"),
+        ("text", Test::Is, "\"\"", "none"),
+        ("text", Test::Is, "null", "none"),
+        ("text", Test::Is, "1", "none"),
+        ("text", Test::Contains, "\"x\"", "cell"),
+        ("text", Test::Contains, "\"\"", "none"),
+        ("text", Test::Less, "\"x\"", "none"),
+        ("text", Test::HasAnyOf, "[]", "none"),
+        ("text", Test::IsEmpty, "null", "nothing"),
+        ("text", Test::IsEmpty, "\"\"", "none"),
+        ("long-text", Test::DoesNotContain, "\"x\"", "cell"),
+        ("number", Test::GreaterOrEqual, "-3", "cell"),
+        ("number", Test::IsNot, "1.5", "none"),
+        ("number", Test::Is, "1000000000001", "none"),
+        ("number", Test::Contains, "\"1\"", "none"),
+        ("checkbox", Test::Is, "false", "cell"),
+        ("checkbox", Test::Is, "null", "none"),
+        ("checkbox", Test::IsNot, "true", "none"),
+        ("date", Test::LessOrEqual, "\"2024-02-29\"", "cell"),
+        ("date", Test::Is, "\"2023-02-29\"", "none"),
+        ("single-select", Test::IsNot, "\"no option\"", "cell"),
+        ("single-select", Test::Is, "\"\"", "none"),
+        ("single-select", Test::Contains, "\"o\"", "cell"),
+        (
+            "multiple-select",
+            Test::HasAllOf,
+            "[\"no option\"]",
+            "items",
+        ),
+        ("multiple-select", Test::IsExactly, "[]", "items"),
+        ("multiple-select", Test::Is, "[\"a\"]", "none"),
+        ("collaborator", Test::HasNoneOf, "[\"Ann\"]", "items"),
+        ("collaborator", Test::HasAnyOf, "\"Ann\"", "none"),
+        ("link", Test::IsEmpty, "null", "none"),
+        ("link", Test::HasAnyOf, "[\"a\"]", "none"),
+        ("ctime", Test::Greater, "\"2024-02-29 08:30\"", "cell"),
+        ("mtime", Test::Is, "null", "none"),
+        ("mtime", Test::IsNotEmpty, "null", "nothing"),
     ] {
         let kind = kind_of_word(kind).ok_or("no type")?;
         let word = word_of_json(alloc, &Value::from_str(alloc, term)?)?;
-        let made = match test_of_word(predicate) {
-            Some(test) => term_of_word(alloc, kind, test, &word)?,
-            None => None,
-        };
-        same(&rt, term_shown(made.as_ref()), found, predicate);
+        let made = term_of_word(alloc, kind, test, &word)?;
+        same(&rt, term_shown(made.as_ref()), found, term);
     }
     Ok(())
 }

@@ -15,7 +15,8 @@ size_after core entry = size_with core.end (record_of (core.base.version + 1) en
 
 -- Each answer has its cause, in this order: a base that failed, the first refusal of the operation, a log that would be
 -- too large, and a fault of the disk. An accepted entry ends the history. What is refused changes nothing; after a fault
--- of the disk the base and its history are what they were and the entry is in doubt. Want of memory may come in place of any answer, and then nothing was touched.
+-- of the disk the base and its history are what they were and the entry is in doubt. Want of memory may come in place of
+-- any answer, and then nothing was touched.
 abbrev pub Edited : {D : Type 0} → Core D → Core D → Entry → Result ℕ CoreFault → Type 0
 Edited old new entry (Ok version) =
     (old.doubt ≡ None) × (apply old.base entry ≡ Ok new.base) × (size_after old entry ≤ old.limits.log_bytes)

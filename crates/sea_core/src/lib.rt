@@ -3,7 +3,7 @@
 //! It stands on the log, on the records of entries, and on the plain base. The contract that matters to the crates
 //! above is that of `Core::edit` and `Core::start`: at each moment of an edit a stop leaves files that stand for the
 //! base before it, or with the entry; after Ok with it; and a start finds that base, and changes at no moment what the
-//! files stand for.
+//! files stand for. `Core::feed` gives the entries that were accepted since the opening.
 #![tactic(auto)]
 
 mod fault;

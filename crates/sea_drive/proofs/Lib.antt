@@ -10,3 +10,4 @@ pub mod LinesLaws
 pub mod PlayLaws
 pub mod StandsLaws
 pub mod TurnLaws
+pub mod DumpLaws

@@ -19,7 +19,7 @@ use Rattle.sea_drive.specs.Reply.{row_json, outcome_json, outcome_line}
 use Rattle.sea_drive.specs.declared.outcome.LineOutcome.{LineOutcome}
 use Rattle.sea_drive.specs.declared.outcome.LineOutcome.TheVariants.{Silent, Version, Reopened, Rows, Fed, FeedGone, FeedAhead, Refusal, BaseFailed, LogFull, DiskFault, NotABase, BadLine, NotYet}
 
-texts_float : (texts : List (List ℕ)) → items_have_float (items_of (map string texts)) ≡ false
+pub texts_float : (texts : List (List ℕ)) → items_have_float (items_of (map string texts)) ≡ false
 texts_float [] = refl
 texts_float (_ ∷ texts) = texts_float texts
 
@@ -31,7 +31,7 @@ units_float : (units : ℤ) → has_float (number (of_integer units)) ≡ false
 units_float (pos n) = refl
 units_float (negsuc n) = refl
 
-cell_float : (value : CellValue) → has_float (json_of value) ≡ false
+pub cell_float : (value : CellValue) → has_float (json_of value) ≡ false
 cell_float (cell.Text _) = refl
 cell_float cell.Empty = refl
 cell_float (cell.Number units) = units_float units

@@ -1,6 +1,7 @@
 pub mod Asked
 pub mod Fed
 pub mod Feeds
+pub mod Dump
 pub mod Lines
 pub mod Outcome
 pub mod Play

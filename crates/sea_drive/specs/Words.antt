@@ -4,20 +4,35 @@ use Rattle.std.specs.Io.KnownBytes.{Appends}
 use Rattle.std.specs.Str.{bytes_eq}
 use Rattle.sea_disk.specs.Shown.{Shown}
 use Rattle.sea_core.specs.declared.limits.Limits.{Limits}
+use Rattle.sea_drive.specs.Dump.{Dumps}
 use Rattle.sea_drive.specs.Play.{Ends}
+use Rattle.sea_drive.specs.declared.command.Command.{Command}
+use Rattle.sea_drive.specs.declared.command.Command.TheVariants.{Play, Dump}
 use Rattle.sea_drive.specs.declared.ending.Status.{Status}
 use Rattle.sea_drive.specs.declared.ending.Status.TheVariants.{Usage, SinkFault}
 
--- the folder that the words of a command name: so far `play FOLDER` is the one command
+-- the command of this name
+abbrev pub command_named : List ℕ → Option Command
+command_named word = if bytes_eq (codes "play") word then Some Play else (if bytes_eq (codes "dump") word then Some Dump else None)
+
+-- the command that the words name: so far there are `play FOLDER` and `dump FOLDER`
+abbrev pub command_in : List (List ℕ) → Option Command
+command_in [] = None
+command_in (_ ∷ []) = None
+command_in (word ∷ _ ∷ []) = command_named word
+command_in (_ ∷ _ ∷ _ ∷ _) = None
+
+-- the folder that the words of a command name
 abbrev pub folder_in : List (List ℕ) → Option (List ℕ)
 folder_in [] = None
 folder_in (_ ∷ []) = None
-folder_in (command ∷ folder ∷ []) = if bytes_eq (codes "play") command then Some folder else None
+folder_in (word ∷ folder ∷ []) = if is_some (command_named word) then Some folder else None
 folder_in (_ ∷ _ ∷ _ ∷ _) = None
 
--- the words are a command's
-abbrev pub is_command : List (List ℕ) → Bool
-is_command words = is_some (folder_in words)
+-- the command reads the source
+abbrev pub is_play : Option Command → Bool
+is_play (Some Play) = true
+is_play _ = false
 
 -- the line that says which words there are
 abbrev pub usage_line : List ℕ
@@ -29,7 +44,9 @@ SaysUsage Usage taken given = Appends taken given usage_line
 SaysUsage SinkFault taken given = (count : ℕ) × Appends taken given (take count usage_line)
 SaysUsage _ taken given = ⊥
 
--- How a run of these words ends: a script was played with the standard limits, or the disk comes back as it was.
-abbrev pub RunsBy : {D : Type 0} → Bool → Status → Option ℤ → Type 0 → (D → Shown) → D → D → Option (List ℕ) → Option (List ℕ) → Option (List ℕ) → Option (List ℕ) → Type 0
-RunsBy true status clock told shows disk back input left taken given = (limits : Limits) × (limits.log_bytes ≡ 268435456) × Ends status clock told shows limits disk back input left taken given
-RunsBy false status clock told shows disk back input left taken given = SaysUsage status taken given × (back ≡ disk)
+-- How a run by the command of its words ends: a script was played or a base was dumped, with the standard limits; or
+-- the disk comes back as it was.
+abbrev pub RunsBy : {D : Type 0} → Option Command → Status → Option ℤ → Type 0 → (D → Shown) → D → D → Option (List ℕ) → Option (List ℕ) → Option (List ℕ) → Option (List ℕ) → Type 0
+RunsBy (Some Play) status clock told shows disk back input left taken given = (limits : Limits) × (limits.log_bytes ≡ 268435456) × Ends status clock told shows limits disk back input left taken given
+RunsBy (Some Dump) status clock told shows disk back input left taken given = (limits : Limits) × (limits.log_bytes ≡ 268435456) × Dumps status told shows limits disk back taken given
+RunsBy None status clock told shows disk back input left taken given = SaysUsage status taken given × (back ≡ disk)

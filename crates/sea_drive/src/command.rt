@@ -4,8 +4,9 @@ ghost use Rattle.sea_core.specs.Stands.{StandsFor};
 ghost use Rattle.sea_plain.specs.declared.base.Plain.{Plain};
 ghost use Rattle.sea_drive.specs.Lines.{TakesWithin};
 ghost use Rattle.sea_drive.specs.Play.{IsCaused, CountsDisk, is_source_fault, is_sink_fault};
-ghost use Rattle.sea_drive.specs.Words.{is_command, folder_in, usage_line as usage_line_of, SaysUsage, RunsBy};
+ghost use Rattle.sea_drive.specs.Words.{command_in, command_named as command_named_of, folder_in, is_play, usage_line as usage_line_of, SaysUsage, RunsBy};
 
+use crate::dumping::dump;
 use crate::ending::Status;
 use crate::player::play;
 use sea_cell::Text;
@@ -17,9 +18,19 @@ use std::alloc::Global;
 /// A word of a command line.
 pub type Word = Text;
 
+/// What the words of a command line ask for.
+#[derive(Clone, Copy)]
+pub enum Command {
+    /// That the source is played as a script.
+    Play,
+    /// That the base is written out.
+    Dump,
+}
+
 /// Does what the words say, which don't include the program's own name. `play FOLDER` plays the source as a script on
-/// the base that the disk's files stand for; other words are no command's yet, and write the usage line. It always
-/// returns, waits for nobody, and gives the disk back beside the status, which says how it ended.
+/// the base that the disk's files stand for; `dump FOLDER` writes that base, and takes nothing from the source; other
+/// words are no command's yet, and write the usage line. It always returns, waits for nobody, and gives the disk back
+/// beside the status, which says how it ended.
 pub fn run<S: Source, K: Sink, D: Disk, C: Clock>(
     alloc: Global,
     words: &[Word],
@@ -28,7 +39,7 @@ pub fn run<S: Source, K: Sink, D: Disk, C: Clock>(
     disk: D,
     clock: &mut C,
 ) -> (Status, D)
-    ensures ends { RunsBy (is_command words.now) result.0 (C.told clock.old) D.told D.shows disk result.1 (S.left source.old) (S.left source.new) (K.taken sink.old) (K.taken sink.new) }
+    ensures ends { RunsBy (command_in words.now) result.0 (C.told clock.old) D.told D.shows disk result.1 (S.left source.old) (S.left source.new) (K.taken sink.old) (K.taken sink.new) }
     ensures source { IsCaused (is_source_fault result.0) (S.faults source.old) (S.faults source.new) }
     ensures sink { IsCaused (is_sink_fault result.0) (K.faults sink.old) (K.faults sink.new) }
     ensures disk { CountsDisk result.0 (D.faults disk) (D.faults result.1) }
@@ -36,13 +47,36 @@ pub fn run<S: Source, K: Sink, D: Disk, C: Clock>(
     ensures no_base { D.told → result.0 ≡ Status.NotABase → (base : Plain) → ¬ StandsFor base (D.shows disk).seen }
     // At most 4,294,967,297 bytes are taken.
     ensures within { TakesWithin (S.left source.old) (S.left source.new) }
-    // Words that are no command's take nothing from the source.
-    ensures untouched { is_command words.now ≡ false → source.new ≡ source.old }
+    // Words other than those that play a script take nothing from the source.
+    ensures untouched { is_play (command_in words.now) ≡ false → source.new ≡ source.old }
 {
-    if folder_of(words).is_some() {
-        return play(alloc, Limits::standard(), source, sink, disk, clock);
+    match command_of(words) {
+        Some(Command::Play) => play(alloc, Limits::standard(), source, sink, disk, clock),
+        Some(Command::Dump) => dump(alloc, Limits::standard(), sink, disk),
+        None => (usage(sink), disk),
     }
-    (usage(sink), disk)
+}
+
+// The command that the words name.
+fn command_of(words: &[Word]) -> Option<Command>
+    ensures { result ≡ command_in words.now }
+{
+    match words {
+        [word, _] => command_named(word.as_str()),
+        _ => None,
+    }
+}
+
+fn command_named(word: &str) -> Option<Command>
+    ensures { result ≡ command_named_of word.now }
+{
+    if "play" == word {
+        return Some(Command::Play);
+    }
+    if "dump" == word {
+        return Some(Command::Dump);
+    }
+    None
 }
 
 /// The folder that the words name, where they are a command's. The program's main alone uses it.
@@ -50,7 +84,7 @@ pub fn folder_of(words: &[Word]) -> Option<&str>
     ensures { option_map (λ folder. folder.now) result ≡ folder_in words.now }
 {
     match words {
-        [command, folder] if "play" == command.as_str() => Some(folder.as_str()),
+        [word, folder] if command_named(word.as_str()).is_some() => Some(folder.as_str()),
         _ => None,
     }
 }

@@ -3,7 +3,7 @@
 /// How a run ends. The discriminant is the program's exit status.
 #[derive(Clone, Copy, Debug, PartialEq, Eq)]
 pub enum Status {
-    /// The input was read to its end, and each line was played.
+    /// The input was read to its end, and each line was played; or the whole base was dumped.
     Done = 0,
     /// The words are no command's; the usage line was written.
     Usage = 2,

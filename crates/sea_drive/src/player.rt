@@ -109,8 +109,8 @@ fn fault_status(fault: ReadFault) -> Status
     }
 }
 
-// The status of a refused start.
-fn start_status(fault: StartFault) -> Status
+/// The status of a refused start.
+pub fn start_status(fault: StartFault) -> Status
     ensures { result ≡ start_status_of fault }
 {
     match fault {

@@ -154,11 +154,7 @@ fn select(alloc: Global, base: &Plain, text: &str) -> Result<LineOutcome, AllocE
         return Ok(LineOutcome::NotYet);
     };
     match plain_named(base.tables.as_slice(), name) {
-        Some(plain) => Ok(LineOutcome::Rows(answer_of(
-            alloc,
-            base.pairs.as_slice(),
-            plain,
-        )?)),
+        Some(plain) => Ok(LineOutcome::Rows(answer_of(alloc, base.pairs.as_slice(), plain)?)),
         None => Ok(LineOutcome::Refusal(OpRefusal::NoTable {
             name: Text::copy_of(alloc, name)?,
         })),

@@ -89,8 +89,8 @@ fn full_json(alloc: Global, size: u64) -> Result<Value, AllocError>
     json!(in alloc; {"error": "LogFull", "size": size})
 }
 
-// An array of texts.
-fn texts_json(alloc: Global, texts: &[Text]) -> Result<Value, AllocError>
+/// An array of texts.
+pub fn texts_json(alloc: Global, texts: &[Text]) -> Result<Value, AllocError>
     ensures { IfOk result (λ json. view json ≡ texts_json_of texts.now) }
 {
     Ok(Value::Array(strings(alloc, texts)?))

@@ -109,7 +109,8 @@ fn front_of(rows: &[Shared<Row>], most: usize) -> &[Shared<Row>]
     rows
 }
 
-fn names_of(alloc: Global, columns: &[Column]) -> Result<Texts, AllocError>
+/// The names of columns, in their order.
+pub fn names_of(alloc: Global, columns: &[Column]) -> Result<Texts, AllocError>
     ensures { IfOk result (λ names. names ≡ map (λ column. column.name) columns.now) }
 {
     let mut names = Items::new(alloc);

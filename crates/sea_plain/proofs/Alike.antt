@@ -1,25 +1,23 @@
 -- The schema of a base after an operation is its schema with the operation's change.
-use Rattle.std.proofs.Common.{◌≡◌, ℕ, ◌+◌, List, [], ◌∷◌, length, map, filter, Bool, true, false, cond, not, Option, Some, None, refl, ap, ◌∙◌, arith}
+use Rattle.std.proofs.Common.{◌≡◌, ℕ, ◌+◌, List, [], ◌∷◌, map, filter, Bool, true, false, cond, not, Option, Some, None, refl, ap, ◌∙◌, arith}
 use Rattle.std.proofs.lemmas.List.{map-append}
 use Rattle.std.specs.Str.{bytes_eq}
 use Rattle.sea_cell.specs.declared.cellular.Row.{Row}
 use Rattle.sea_cell.specs.declared.keys.Moment.{Moment}
-use Rattle.sea_cell.specs.declared.layout.Column.{Column}
 use Rattle.sea_cell.specs.declared.layout.NewColumn.{NewColumn}
 use Rattle.sea_cell.specs.declared.layout.NewEnd.{NewEnd}
 use Rattle.sea_schema.specs.Layout.{Layout, if_table, is_other_table, end_towards, keys_of_new, links_of_new, with_new_column_towards, links_of_column, links_of_table}
-use Rattle.sea_schema.specs.Tables.{table_of, with_name, with_column, with_link_column, with_column_name, with_options, without_column, with_view, without_view, without_links}
+use Rattle.sea_schema.specs.Tables.{table_of, with_link_column, without_links}
 use Rattle.sea_schema.specs.declared.table.Table.{Table}
 use Rattle.sea_plain.specs.declared.base.Plain.{Plain}
 use Rattle.sea_plain.specs.declared.base.PlainTable.{PlainTable}
 use Rattle.sea_plain.specs.declared.operation.Op.{Op}
 use Rattle.sea_plain.specs.declared.operation.Op.TheVariants.{InsertTable, RenameTable, DeleteTable, InsertColumn, RenameColumn, DeleteColumn, AddOptions, AppendRows, ModifyRows, DeleteRows, AddLink, RemoveLink, InsertView, ModifyView, DeleteView}
-use Rattle.sea_plain.specs.Apply.{applied, columns_named, rows_after, has_other_name, plain_after, named_after, table_after, without_ends_in, in_plain, with_column_in}
+use Rattle.sea_plain.specs.Apply.{applied, columns_named, rows_after, has_other_name, named_after, table_after, without_ends_in, in_plain, with_column_in}
 use Rattle.sea_plain.specs.Makes.{table_name}
 use Rattle.sea_plain.specs.Refusal.{new_rows}
 use Rattle.sea_plain.specs.Seen.{seen_of}
 use Rattle.sea_plain.specs.Schemas.{bare_tables, schema_of, schema_after}
-use Rattle.sea_plain.specs.Viewed.{view_of}
 
 -- a table without its rows
 abbrev bare : PlainTable → Table

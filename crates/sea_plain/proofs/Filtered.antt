@@ -1,5 +1,5 @@
 -- The columns of a view's filters are those that its operation names.
-use Rattle.std.proofs.Common.{◌≡◌, ℕ, List, Option, sym, ap, ◌∙◌}
+use Rattle.std.proofs.Common.{◌≡◌, ℕ, List, sym, ap, ◌∙◌}
 use Rattle.sea_cell.specs.declared.layout.Column.{Column}
 use Rattle.sea_plain.specs.declared.operation.NewView.{NewView}
 use Rattle.sea_plain.specs.declared.operation.Op.{Op}

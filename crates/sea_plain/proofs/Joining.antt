@@ -23,8 +23,8 @@ linked base table name other towards to to_name first second start tables middle
     let key = base.next_column + 1 in
     let begun = with_end table base.next_column name (end_towards other.table true (schema_of base)) base.tables in
     let all = middle_is ∙ tables_is
-        ∙ ap (λ (it : List PlainTable). with_end table base.next_column name first it) start_is
-        ∙ ap (λ (it : LinkEnd). with_end table base.next_column name it base.tables) (first_is ∙ ap (λ (it : List ℕ). end_towards it true (schema_of base)) towards_is) in
+    ∙ ap (λ (it : List PlainTable). with_end table base.next_column name first it) start_is
+    ∙ ap (λ (it : LinkEnd). with_end table base.next_column name it base.tables) (first_is ∙ ap (λ (it : List ℕ). end_towards it true (schema_of base)) towards_is) in
     new_is
     ∙ ap (λ (it : List PlainTable). with_end to key to_name second it) all
     ∙ ap (λ (it : List ℕ). with_end it key to_name second begun) to_is

@@ -1,5 +1,5 @@
 -- The views that operations put into tables.
-use Rattle.std.specs.Prelude.{ℕ, List, [], ◌∷◌, Option, Some, None, option_map, option_and_then}
+use Rattle.std.specs.Prelude.{List, Option, option_map, option_and_then}
 use Rattle.std.specs.List.{filter_map}
 use Rattle.sea_cell.specs.Fits.{test_of, term_of}
 use Rattle.sea_cell.specs.declared.layout.Column.{Column}

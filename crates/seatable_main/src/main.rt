@@ -1,4 +1,4 @@
-//! The program `seatable`: a server for bases, which plays scripts so far.
+//! The program `seatable`: a server for bases, which plays scripts and dumps bases so far.
 //!
 //! It stands on `sea_drive`, whose `run` does all that the program does: here the words, standard input, standard
 //! output, the system's clock and the folder of a base are put together.
@@ -78,6 +78,8 @@ fn open_folder<R: Files<File = File>>(
     FolderDisk::open(rt, alloc, folder)
 }
 
+#[cfg(test)]
+mod dumps;
 #[cfg(test)]
 mod feeds;
 #[cfg(test)]

@@ -157,7 +157,7 @@ fn numbers_rows_and_escapes_texts(rt: HostRuntime) -> Result<(), Fail> {
 
 #[test]
 fn words_of_no_command(rt: HostRuntime) -> Result<(), Fail> {
-    let rows: [&[&str]; 4] = [&[], &["play"], &["play", "box", "more"], &["dump", "box"]];
+    let rows: [&[&str]; 4] = [&[], &["play"], &["play", "box", "more"], &["drill", "box"]];
     for words in rows {
         let input = joined(rt.alloc(), &[FIRST])?;
         let (status, written) = played(rt.alloc(), words, input, 8, 0, 0)?;

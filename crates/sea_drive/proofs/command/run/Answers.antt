@@ -1,9 +1,16 @@
-use Rattle.std.proofs.Common.{◌≡◌, Bool, true, sym, subst, arith}
-use Rattle.std.proofs.lemmas.Grind.{common_steps}
-use Rattle.sea_drive.specs.Words.{is_command, RunsBy}
+use Rattle.std.proofs.Common.{◌≡◌, Option, Some, sym, subst}
+use Rattle.sea_drive.specs.Words.{command_in, RunsBy}
+use Rattle.sea_drive.specs.declared.command.Command.{Command}
+use Rattle.sea_drive.specs.declared.command.Command.TheVariants.{Play, Dump}
 use Rattle.sea_drive.proofs.command.run.Goals as goal
 
-pub returns-then-is_some-clause-ends : goal.returns-then-is_some-clause-ends
-returns-then-is_some-clause-ends g c =
-    let yes : is_command c.args.words.now ≡ true = grind (arith, common_steps) in
-    subst (λ (command : Bool). RunsBy command c.play.result.0 (g.C.Clock.told c.args.clock.now) g.D.Disk.told g.D.Disk.shows c.args.disk c.play.result.1 (g.S.Source.left c.args.source.now) (g.S.Source.left c.play.new.source) (g.K.Sink.taken c.args.sink.now) (g.K.Sink.taken c.play.new.sink)) (sym yes) (c.standard.result, c.standard.ensures, c.play.ensures.ends)
+pub returns-in-Some-Play-clause-ends : goal.returns-in-Some-Play-clause-ends
+returns-in-Some-Play-clause-ends g c =
+    let is : command_in c.args.words.now ≡ Some Play = cc (c.command_of.ensures, c.in-Some-Play.is, c.in-Some-Play.field-0-is) in
+    subst (λ (command : Option Command). RunsBy command c.play.result.0 (g.C.Clock.told c.args.clock.now) g.D.Disk.told g.D.Disk.shows c.args.disk c.play.result.1 (g.S.Source.left c.args.source.now) (g.S.Source.left c.play.new.source) (g.K.Sink.taken c.args.sink.now) (g.K.Sink.taken c.play.new.sink)) (sym is) (c.standard.result, c.standard.ensures, c.play.ensures.ends)
+
+pub returns-in-Some-Dump-clause-ends : goal.returns-in-Some-Dump-clause-ends
+returns-in-Some-Dump-clause-ends g c =
+    let is : command_in c.args.words.now ≡ Some Dump = cc (c.command_of.ensures, c.in-Some-Dump.is, c.in-Some-Dump.field-0-is) in
+    let left = g.S.Source.left c.args.source.now in
+    subst (λ (command : Option Command). RunsBy command c.dump.result.0 (g.C.Clock.told c.args.clock.now) g.D.Disk.told g.D.Disk.shows c.args.disk c.dump.result.1 left left (g.K.Sink.taken c.args.sink.now) (g.K.Sink.taken c.dump.new.sink)) (sym is) (c.standard-in-Some-Dump.result, c.standard-in-Some-Dump.ensures, c.dump.ensures.ends)

@@ -1,4 +1,4 @@
-use Rattle.std.proofs.Common.{rules, ◌≡◌}
+use Rattle.std.proofs.Common.{rules}
 use Rattle.sea_plain.specs.Refusal.{refused_in}
 use Rattle.sea_plain.proofs.checking.bad_cell.Goals as goal
 

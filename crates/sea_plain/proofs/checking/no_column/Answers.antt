@@ -1,4 +1,4 @@
-use Rattle.std.proofs.Common.{◌≡◌, ℕ, List, Option, subst, ap, ◌∙◌}
+use Rattle.std.proofs.Common.{ℕ, List, Option, subst, ap, ◌∙◌}
 use Rattle.sea_plain.specs.declared.refusal.OpRefusal.{OpRefusal}
 use Rattle.sea_plain.specs.Checks.{Checks}
 use Rattle.sea_plain.specs.Seen.{columns_in}

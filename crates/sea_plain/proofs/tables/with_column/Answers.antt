@@ -10,6 +10,6 @@ returns-in-Some c =
     let column = c.args.column.now in
     let other = c.in-Some.other in
     let same = ap (λ (table : List ℕ). with_link_in base table c.as_str-in-Some.result.now other) c.as_str.ensures
-        ∙ ap (λ (name : List ℕ). with_link_in base c.args.table.now name other) c.as_str-in-Some.ensures
-        ∙ ap (λ (end : Option NewEnd). with_column_in end base c.args.moment c.args.table.now column) (sym c.in-Some.is) in
+    ∙ ap (λ (name : List ℕ). with_link_in base c.args.table.now name other) c.as_str-in-Some.ensures
+    ∙ ap (λ (end : Option NewEnd). with_column_in end base c.args.moment c.args.table.now column) (sym c.in-Some.is) in
     IfOk-weaker c.with_link.result _ _ (λ tables is. is ∙ same) c.with_link.ensures
