@@ -7,6 +7,7 @@ Each of COUNT (200 by default) appends one short row and waits until it is safe:
 
 - jamunhatch: one `op` line of `bin/seatable play`, whose reply is awaited;
 - floor: two small writes to one file, each with a data sync, which is the least that a log with gates does;
+- floor, pipes: the same by another process, which is asked and answers through pipes, as `play` is;
 - sqlite3 in its `delete` and `wal` journal modes, with `synchronous=FULL`: one insert in a transaction of its own.
 
 All work in new folders below FOLDER, which are removed. Prints operations a second, and jamunhatch's share of each other
@@ -21,21 +22,21 @@ import tempfile
 import time
 
 TOP = os.path.dirname(os.path.dirname(os.path.abspath(__file__)))
-TABLE = 'op {"op":"insert_table","table":"T","columns":[{"name":"Name","type":"text"}]}\n'
-ROW = 'op {"op":"append_rows","table":"T","rows":[{"Name":"order 4711"}]}\n'
+TABLE = b'op {"op":"insert_table","table":"T","columns":[{"name":"Name","type":"text"}]}\n'
+ROW = b'op {"op":"append_rows","table":"T","rows":[{"Name":"order 4711"}]}\n'
 
 
 def jamunhatch(folder, count):
     """Seconds that `count` appends through the program take."""
     program = [os.path.join(TOP, "bin", "seatable"), "play", os.path.join(folder, "box")]
     pipe = subprocess.PIPE
-    with subprocess.Popen(program, stdin=pipe, stdout=pipe, text=True, bufsize=1) as played:
+    with subprocess.Popen(program, stdin=pipe, stdout=pipe, bufsize=0) as played:
+        asked, answers = played.stdin.fileno(), played.stdout.fileno()
 
         def say(line):
-            played.stdin.write(line)
-            played.stdin.flush()
-            reply = played.stdout.readline()
-            if not reply.startswith('{"version":'):
+            os.write(asked, line)
+            reply = os.read(answers, 65_536)
+            if not reply.startswith(b'{"version":') or not reply.endswith(b"\n"):
                 raise SystemExit(f"unexpected reply: {reply!r}")
 
         say(TABLE)
@@ -64,6 +65,38 @@ def floor(folder, count):
     return seconds
 
 
+def floor_behind_pipes(folder, count):
+    """The same two writes and syncs, by a process that is asked and answers through pipes, as `play` is."""
+    asks, asked = os.pipe()
+    answers, answered = os.pipe()
+    child = os.fork()
+    if child == 0:
+        os.close(asked)
+        os.close(answers)
+        file = os.open(os.path.join(folder, "log"), os.O_RDWR | os.O_CREAT)
+        record = b"\0" * 130
+        place = 0
+        while os.read(asks, 65_536):
+            os.pwrite(file, record, place + 1)
+            os.fdatasync(file)
+            os.pwrite(file, b"\1", place)
+            os.fdatasync(file)
+            place += len(record)
+            os.write(answered, b'{"version":1}\n')
+        os._exit(0)
+    os.close(asks)
+    os.close(answered)
+    begin = time.monotonic()
+    for _ in range(count):
+        os.write(asked, ROW)
+        os.read(answers, 65_536)
+    seconds = time.monotonic() - begin
+    os.close(asked)
+    os.waitpid(child, 0)
+    os.close(answers)
+    return seconds
+
+
 def sqlite(folder, count, mode):
     """Seconds that `count` inserts into an SQLite file in this journal mode take."""
     base = sqlite3.connect(os.path.join(folder, "base.db"), isolation_level=None)
@@ -85,6 +118,7 @@ def main():
     rows = [
         ("jamunhatch", jamunhatch),
         ("floor", floor),
+        ("floor, pipes", floor_behind_pipes),
         ("sqlite3 delete", lambda folder, n: sqlite(folder, n, "delete")),
         ("sqlite3 wal", lambda folder, n: sqlite(folder, n, "wal")),
     ]
