@@ -14,37 +14,24 @@ All work in new folders below FOLDER, which are removed. Prints operations a sec
 row. The figures are of one machine and its disk.
 """
 import os
-import shutil
 import sqlite3
-import subprocess
 import sys
-import tempfile
 import time
 
-TOP = os.path.dirname(os.path.dirname(os.path.abspath(__file__)))
+from playing import Playing, new_folder
+
 TABLE = b'op {"op":"insert_table","table":"T","columns":[{"name":"Name","type":"text"}]}\n'
 ROW = b'op {"op":"append_rows","table":"T","rows":[{"Name":"order 4711"}]}\n'
 
 
 def jamunhatch(folder, count):
     """Seconds that `count` appends through the program take."""
-    program = [os.path.join(TOP, "bin", "seatable"), "play", os.path.join(folder, "box")]
-    pipe = subprocess.PIPE
-    with subprocess.Popen(program, stdin=pipe, stdout=pipe, bufsize=0) as played:
-        asked, answers = played.stdin.fileno(), played.stdout.fileno()
-
-        def say(line):
-            os.write(asked, line)
-            reply = os.read(answers, 65_536)
-            if not reply.startswith(b'{"version":') or not reply.endswith(b"\n"):
-                raise SystemExit(f"unexpected reply: {reply!r}")
-
-        say(TABLE)
+    with Playing(os.path.join(folder, "box")) as played:
+        played.say(TABLE)
         begin = time.monotonic()
         for _ in range(count):
-            say(ROW)
+            played.say(ROW)
         seconds = time.monotonic() - begin
-        played.stdin.close()
     return seconds
 
 
@@ -124,11 +111,8 @@ def main():
     ]
     rates = {}
     for name, measure in rows:
-        folder = tempfile.mkdtemp(dir=sys.argv[1])
-        try:
+        with new_folder(sys.argv[1]) as folder:
             rates[name] = count / measure(folder, count)
-        finally:
-            shutil.rmtree(folder)
     for name, rate in rates.items():
         print(f"{name:15} {rate:10.1f} a second   jamunhatch is {rates['jamunhatch'] / rate:.2f} of it")
 

@@ -12,20 +12,18 @@ ratio. The figures are of one machine.
 """
 import json
 import os
-import shutil
-import statistics
-import subprocess
 import sys
-import tempfile
 import time
 
-TOP = os.path.dirname(os.path.dirname(os.path.abspath(__file__)))
+from playing import Playing, median_ms, new_folder
+
 NAMES = [f"Column {n}" for n in range(10)]
 
 
 def table_line(number):
     columns = [{"name": name, "type": "text"} for name in NAMES]
-    return "op " + json.dumps({"op": "insert_table", "table": f"T{number}", "columns": columns}) + "\n"
+    op = {"op": "insert_table", "table": f"T{number}", "columns": columns}
+    return f"op {json.dumps(op)}\n".encode()
 
 
 def rows_text(number):
@@ -37,33 +35,19 @@ def main():
     if len(sys.argv) not in (2, 3):
         raise SystemExit(__doc__)
     count = int(sys.argv[2]) if len(sys.argv) == 3 else 20
-    folder = tempfile.mkdtemp(dir=sys.argv[1])
     played, alone = [], []
-    try:
-        program = [os.path.join(TOP, "bin", "seatable"), "play", os.path.join(folder, "box")]
-        pipe = subprocess.PIPE
-        with subprocess.Popen(program, stdin=pipe, stdout=pipe, text=True) as process:
-
-            def say(line):
-                process.stdin.write(line)
-                process.stdin.flush()
-                reply = process.stdout.readline()
-                if not reply.startswith('{"version":'):
-                    raise SystemExit(f"unexpected reply: {reply!r}")
-
-            for number in range(count):
-                say(table_line(number))
-                text = rows_text(number)
-                begin = time.monotonic()
-                say(f"op {text}\n")
-                played.append(time.monotonic() - begin)
-                begin = time.monotonic()
-                json.dumps(json.loads(text), sort_keys=True, separators=(",", ":"))
-                alone.append(time.monotonic() - begin)
-            process.stdin.close()
-    finally:
-        shutil.rmtree(folder)
-    mine, python = statistics.median(played) * 1000, statistics.median(alone) * 1000
+    with new_folder(sys.argv[1]) as folder, Playing(os.path.join(folder, "box")) as play:
+        for number in range(count):
+            play.say(table_line(number))
+            text = rows_text(number)
+            line = f"op {text}\n".encode()
+            begin = time.monotonic()
+            play.say(line)
+            played.append(time.monotonic() - begin)
+            begin = time.monotonic()
+            json.dumps(json.loads(text), sort_keys=True, separators=(",", ":"))
+            alone.append(time.monotonic() - begin)
+    mine, python = median_ms(played), median_ms(alone)
     print(f"line of {len(rows_text(0)):,} bytes, 1,000 rows of ten cells")
     print(f"jamunhatch     {mine:6.2f} ms")
     print(f"python's json  {python:6.2f} ms   jamunhatch takes {mine / python:.2f} of it")
