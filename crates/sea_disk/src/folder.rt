@@ -26,7 +26,8 @@ pub struct FolderDisk {
 }
 
 impl FolderDisk {
-    /// Opens the five files of a folder, and makes those that are absent. No call has failed yet.
+    /// Opens the five files of a folder, and makes those that are absent. Their names are safe then: the folder is synced,
+    /// and the one that it lies in. No call has failed yet.
     pub fn open<R: Files<File = OpenFile>>(
         rt: &R,
         alloc: Global,
@@ -35,7 +36,7 @@ impl FolderDisk {
         ensures failed { IfOk result (λ disk. disk.failed ≡ 0) }
         ensures failed_writes { IfOk result (λ disk. disk.failed_writes ≡ 0) }
     {
-        Ok(FolderDisk {
+        let disk = FolderDisk {
             base0: open_file(rt, alloc, folder, "base0")?,
             base1: open_file(rt, alloc, folder, "base1")?,
             log0: open_file(rt, alloc, folder, "log0")?,
@@ -43,7 +44,10 @@ impl FolderDisk {
             arch: open_file(rt, alloc, folder, "arch")?,
             failed: 0,
             failed_writes: 0,
-        })
+        };
+        sync_names(rt, folder)?;
+        sync_names(rt, format!(in alloc; "{folder}/..")?.as_str())?;
+        Ok(disk)
     }
 
     fn file(&self, file: File) -> &OpenFile {
@@ -90,6 +94,11 @@ fn open_file<R: Files<File = OpenFile>>(
     let mut options = OpenOptions::new();
     options.read(true).write(true).create(true);
     options.open(rt, path.as_str())
+}
+
+// Makes safe which names a folder holds: a sync of a file is none of its name.
+fn sync_names<R: Files<File = OpenFile>>(rt: &R, folder: &str) -> io::Result<()> {
+    OpenFile::open(rt, folder)?.sync_all()
 }
 
 impl Disk for FolderDisk {

@@ -1,6 +1,6 @@
 //! Binary fields: numbers in big-endian order, and byte rows led by their length.
 //!
-//! It stands on nothing. The contract that matters to the crates above is that of the `take` calls: which number or
+//! It stands on no other crate of the project. The contract that matters to the crates above is that of the `take` calls: which number or
 //! byte row stands at a place, or why none does; and that what a `put` call wrote is what `take` reads, whatever
 //! stands before it and follows.
 #![tactic(auto)]
