@@ -1,2 +1,3 @@
 pub mod CellsLaws
+pub mod NamesLaws
 pub mod OnceLaws

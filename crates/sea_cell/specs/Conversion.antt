@@ -118,12 +118,12 @@ abbrev pub cell_of : Column → CellWord → Result CellValue CellFault
 cell_of column word = cell_of_kind column.kind column.options word
 
 -- an array of texts
-abbrev pub json_of_texts : List (List ℕ) → Data
-json_of_texts texts = array (items_of (map string texts))
+abbrev pub texts_json : List (List ℕ) → Data
+texts_json texts = array (items_of (map string texts))
 
 -- an array of ids
-abbrev pub json_of_ids : List RowId → Data
-json_of_ids ids = array (items_of (map (λ id. string id.0) ids))
+abbrev pub ids_json : List RowId → Data
+ids_json ids = array (items_of (map (λ id. string id.0) ids))
 
 -- A cell is shown as the JSON that it came from, but that a moment is printed anew, links as an array of ids, and an
 -- empty cell as null.
@@ -134,6 +134,6 @@ json_of (cell.Number units) = number (of_integer units)
 json_of (cell.Check check) = boolean check
 json_of (cell.Moment moment) = string (moment_text moment.0)
 json_of (cell.Choice option) = string option
-json_of (cell.Choices options) = json_of_texts options
-json_of (cell.Names names) = json_of_texts names
-json_of (cell.Links ids) = json_of_ids ids
+json_of (cell.Choices options) = texts_json options
+json_of (cell.Names names) = texts_json names
+json_of (cell.Links ids) = ids_json ids

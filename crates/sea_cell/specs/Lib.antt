@@ -3,6 +3,7 @@ pub mod Cells
 pub mod Conversion
 pub mod Fits
 pub mod Kinds
+pub mod Named
 pub mod Once
 pub mod Sizes
 pub mod Words

@@ -1,15 +1,15 @@
 // From what an operation says to a cell, and from a cell to what is shown.
-ghost use Rattle.std.specs.Prelude.{◌≡◌, IfOk, map};
+ghost use Rattle.std.specs.Prelude.{◌≡◌, IfOk};
 ghost use Rattle.std.specs.List.{list_all};
-ghost use Rattle.serde_json.specs.Data.{string};
 ghost use Rattle.serde_json.specs.View.{view};
 ghost use Rattle.sea_moment.specs.Dates.{moment_of};
 ghost use Rattle.sea_cell.specs.Answers.{Answers};
 ghost use Rattle.sea_cell.specs.Once.{is_among as is_among_of};
-ghost use Rattle.sea_cell.specs.Conversion.{cell_of, text_of_word, text_cell, number_of_word, number_cell, check_of_word, date_of_word, moment_cell, choice_of_word, choice_cell, choices_of_word, choices_cell, choices_once, names_of_word, names_cell, names_once, is_short as is_short_of, json_of, json_of_texts, json_of_ids};
+ghost use Rattle.sea_cell.specs.Conversion.{cell_of, text_of_word, text_cell, number_of_word, number_cell, check_of_word, date_of_word, moment_cell, choice_of_word, choice_cell, choices_of_word, choices_cell, choices_once, names_of_word, names_cell, names_once, is_short as is_short_of, json_of};
 
 use crate::amounts::is_amount;
-use crate::keys::{Moment, RowId};
+use crate::arrays::{ids_json, texts_json};
+use crate::keys::Moment;
 use crate::layout::{ColKind, Column};
 use crate::once::{is_among, without_repeats};
 use crate::text_type::{Text, Texts};
@@ -290,38 +290,4 @@ pub fn json_of_cell(alloc: Global, cell: &CellValue) -> Result<Value, AllocError
         CellValue::Names(names) => Ok(texts_json(alloc, names.as_slice())?),
         CellValue::Links(ids) => Ok(ids_json(alloc, ids.as_slice())?),
     }
-}
-
-// Texts as an array of strings.
-fn texts_json(alloc: Global, texts: &[Text]) -> Result<Value, AllocError>
-    ensures { IfOk result (λ json. view json ≡ json_of_texts texts.now) }
-{
-    Ok(Value::Array(text_values(alloc, texts)?))
-}
-
-fn text_values(alloc: Global, texts: &[Text]) -> Result<Vec<Value>, AllocError>
-    ensures { IfOk result (λ values. map view values.items ≡ map string texts.now) }
-{
-    let mut values = Vec::with_capacity(alloc, texts.len())?;
-    for text in texts {
-        values.push(Value::try_from_str(alloc, text.as_str())?)?;
-    }
-    Ok(values)
-}
-
-// Ids as an array of strings.
-fn ids_json(alloc: Global, ids: &[RowId]) -> Result<Value, AllocError>
-    ensures { IfOk result (λ json. view json ≡ json_of_ids ids.now) }
-{
-    Ok(Value::Array(id_values(alloc, ids)?))
-}
-
-fn id_values(alloc: Global, ids: &[RowId]) -> Result<Vec<Value>, AllocError>
-    ensures { IfOk result (λ values. map view values.items ≡ map (λ id. string id.0) ids.now) }
-{
-    let mut values = Vec::with_capacity(alloc, ids.len())?;
-    for id in ids {
-        values.push(Value::try_from_str(alloc, id.0.as_str())?)?;
-    }
-    Ok(values)
 }

@@ -2,6 +2,7 @@
 ghost use Rattle.std.specs.Prelude.{◌≡◌, IfOk};
 
 use crate::duplicate::Duplicate;
+use crate::indexed::Named;
 use crate::text_type::Text;
 use sqlite_items::Items;
 use std::alloc::{AllocError, Global};
@@ -25,6 +26,14 @@ pub struct RowId(pub Text);
 
 /// A list of row ids.
 pub type Ids = Items<RowId>;
+
+impl Named for RowId {
+    ghost name = { λ id. id.0 };
+
+    fn name(&self) -> &str {
+        self.0.as_str()
+    }
+}
 
 impl Duplicate for RowId {
     fn duplicate(&self, alloc: Global) -> Result<RowId, AllocError> {

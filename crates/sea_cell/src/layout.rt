@@ -2,6 +2,7 @@
 ghost use Rattle.std.specs.Prelude.{◌≡◌, IfOk};
 
 use crate::duplicate::Duplicate;
+use crate::indexed::{Indexed, Named};
 use crate::keys::{ColKey, TableNo};
 use crate::text_type::{Text, Texts};
 use sqlite_items::Items;
@@ -42,8 +43,8 @@ pub struct Column {
     pub other: Option<LinkEnd>,
 }
 
-/// The columns of a table, in the order in which they were added.
-pub type Columns = Items<Column>;
+/// The columns of a table, in the order in which they were added. They are found by name.
+pub type Columns = Indexed<Column>;
 
 /// The other side of a link column that is to be made: the table, and the name of the column there.
 #[derive(Drop)]
@@ -64,6 +65,22 @@ pub struct NewColumn {
 
 /// The columns that are to be made, in order.
 pub type NewColumns = Items<NewColumn>;
+
+impl Named for Column {
+    ghost name = { λ column. column.name };
+
+    fn name(&self) -> &str {
+        self.name.as_str()
+    }
+}
+
+impl Named for NewColumn {
+    ghost name = { λ column. column.name };
+
+    fn name(&self) -> &str {
+        self.name.as_str()
+    }
+}
 
 impl Duplicate for Column {
     fn duplicate(&self, alloc: Global) -> Result<Column, AllocError> {

@@ -2,6 +2,7 @@
 ghost use Rattle.std.specs.Prelude.{◌≡◌, IfOk};
 
 use crate::duplicate::Duplicate;
+use crate::indexed::{Indexed, Named};
 use crate::keys::ColKey;
 use crate::text_type::{Text, Texts};
 use crate::values::CellValue;
@@ -54,8 +55,16 @@ pub struct View {
     pub filters: Filters,
 }
 
-/// The views of a table, in the order in which they were added.
-pub type Views = Items<View>;
+/// The views of a table, in the order in which they were added. They are found by name.
+pub type Views = Indexed<View>;
+
+impl Named for View {
+    ghost name = { λ view. view.name };
+
+    fn name(&self) -> &str {
+        self.name.as_str()
+    }
+}
 
 impl Duplicate for Term {
     fn duplicate(&self, alloc: Global) -> Result<Term, AllocError> {

@@ -2,6 +2,7 @@
 ghost use Rattle.std.specs.Prelude.{◌≡◌, IfOk};
 
 use crate::duplicate::Duplicate;
+use crate::indexed::Named;
 use std::alloc::{AllocError, Global};
 use std::marker::Model;
 use std::sync::Arc;
@@ -46,5 +47,13 @@ impl<T: Drop> Duplicate for Shared<T> {
         Ok(Shared {
             owner: self.owner.clone()?,
         })
+    }
+}
+
+impl<T: Named> Named for Shared<T> {
+    ghost name = { T.name };
+
+    fn name(&self) -> &str {
+        self.get().name()
     }
 }

@@ -1,11 +1,13 @@
 use crate::{
     Cell, CellValue, CellWord, Cells, ColKey, ColKind, Column, Duplicate, Filter, Filters, Ids,
-    Moment, Row, RowId, Sort, Term, Test, Text, Texts, View, cell_of_json, json_of_cell,
-    kind_of_word, no_text_goes_or_stays_twice, row_bytes, sort_of, term_of_word, test_of_word,
-    type_word, without_repeats, word_of_json, words_name_kinds, words_name_tests,
+    Moment, Row, RowId, Sort, Term, Test, Text, Texts, View, Views, cell_of_json, items_in,
+    json_of_cell, kind_of_word, named_in, no_text_goes_or_stays_twice, row_bytes, sort_of,
+    term_of_word, test_of_word, type_word, without_repeats, word_of_json, words_name_kinds,
+    words_name_tests,
 };
 use sea_moment::{FIRST, LAST};
 use serde_json::Value;
+use sqlite_items::Items;
 use std::alloc::{AllocError, Global};
 use std::process::Abort;
 use std::test::Fail;
@@ -613,5 +615,38 @@ fn filters_that_fit_a_column(rt: HostRuntime) -> Result<(), Fail> {
         let made = term_of_word(alloc, kind, test, &word)?;
         same(&rt, term_shown(made.as_ref()), found, term);
     }
+    Ok(())
+}
+
+// Three views, of which the last has the name of the first.
+fn three_views(alloc: Global) -> Result<Views, AllocError> {
+    let mut views = Items::new(alloc);
+    for (name, all) in [("A", true), ("B", false), ("A", false)] {
+        let name = Text::copy_of(alloc, name)?;
+        let filters = Filters::new(alloc);
+        views.push(View { name, all, filters })?;
+    }
+    Views::of(alloc, views)
+}
+
+#[test]
+fn things_by_their_names(rt: HostRuntime) -> Result<(), Fail> {
+    let alloc = rt.alloc();
+    let views = three_views(alloc)?;
+    let copy = views.duplicate(alloc)?;
+    let none = Views::new(alloc);
+    for (name, found) in [
+        ("A", Some(true)),
+        ("B", Some(false)),
+        ("C", None),
+        ("", None),
+    ] {
+        assert_eq!(rt; views.named(name).map(|view| view.all), found);
+        assert_eq!(rt; named_in(Some(&copy), name).map(|view| view.all), found);
+        assert_eq!(rt; named_in(Some(&none), name).is_none(), true);
+        assert_eq!(rt; named_in::<View>(None, name).is_none(), true);
+    }
+    let count = (items_in(Some(&copy)).len(), items_in::<View>(None).len());
+    assert_eq!(rt; count, (3, 0));
     Ok(())
 }

@@ -1,8 +1,9 @@
 // Cells and terms as an operation has them.
-ghost use Rattle.std.specs.Prelude.{◌≡◌, ◌++◌, IfOk, Option, Some, None, option_map};
-ghost use Rattle.serde_json.specs.View.{view, items_view};
-ghost use Rattle.sea_cell.specs.Words.{word_of, texts_of as texts_of_items};
+ghost use Rattle.std.specs.Prelude.{◌≡◌, IfOk};
+ghost use Rattle.serde_json.specs.View.{view};
+ghost use Rattle.sea_cell.specs.Words.{word_of};
 
+use crate::arrays::texts_of;
 use crate::text_type::{Text, Texts};
 use serde_json::Value;
 use std::alloc::{AllocError, Global};
@@ -42,18 +43,4 @@ pub fn word_of_json(alloc: Global, json: &Value) -> Result<CellWord, AllocError>
         },
         Value::Object(_) => Ok(CellWord::Odd),
     }
-}
-
-// The texts of an array of nothing but strings.
-fn texts_of(alloc: Global, items: &[Value]) -> Result<Option<Texts>, AllocError>
-    ensures { IfOk result (λ texts. texts ≡ texts_of_items (items_view items.now)) }
-{
-    let mut texts = Texts::new(alloc);
-    for item in items {
-        let Some(text) = item.as_str() else {
-            return Ok(None);
-        };
-        texts.push(Text::copy_of(alloc, text)?)?;
-    }
-    Ok(Some(texts))
 }

@@ -10,7 +10,8 @@ use Rattle.sea_plain.specs.declared.base.Plain.{Plain}
 use Rattle.sea_core.specs.declared.fault.StartFault.TheVariants.{NotABase}
 use Rattle.sea_core.specs.Sound.{IsReady}
 use Rattle.sea_core.specs.Stands.{IsClosedBase, Makes, StandsFor}
-use Rattle.sea_core.specs.Steps.{AreClosed, HasGate, IsAllSettled, start_fault_of}
+use Rattle.sea_core.specs.Gates.{HasGate}
+use Rattle.sea_core.specs.Steps.{AreClosed, IsAllSettled, start_fault_of}
 use Rattle.sea_core.proofs.Standing.{HoldsOneList}
 
 -- ---- base files

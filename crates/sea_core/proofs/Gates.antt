@@ -1,11 +1,12 @@
 -- Laying the gates that are missing.
-use Rattle.std.proofs.Common.{ℕ, ◌<◌, List, [], length, refl, sym, ap, subst, inl, inr, arith}
+use Rattle.std.proofs.Common.{◌≡◌, ◌≢◌, ℕ, ◌+◌, ◌-◌, ◌<◌, ◌≤◌, List, [], ◌∷◌, ◌++◌, length, take, drop, replicate, refl, sym, ◌∙◌, ap, subst, inl, inr, arith}
 use Rattle.sea_disk.specs.declared.file.File.{File}
 use Rattle.sea_disk.specs.declared.file.File.TheVariants.{Base0, Base1, Log0, Log1, Arch}
 use Rattle.sea_disk.specs.Shown.{Shown, IsDisk, IsSettled}
-use Rattle.sea_disk.specs.Calls.{Torn, After}
+use Rattle.sea_disk.specs.Calls.{overlaid, Torn, After, Rests}
 use Rattle.sea_disk.specs.Runs.{Works}
 use Rattle.sea_log.specs.Records.{HoldsList}
+use Rattle.sea_core.specs.Gates.{HasGate, HasBaseGate, AreGatesLaid}
 use Rattle.sea_core.specs.Stands.{IsClosedBase}
 use Rattle.sea_core.specs.Steps.{Keeps, IsAllSettled, IsBaseFile, IsLogFile}
 use Rattle.sea_core.proofs.Standing.{HoldsOneList}
@@ -35,6 +36,34 @@ base_gate_keeps {file = file} {old = old} is disk after settled short works =
     keeps_works disk after settled works
     (λ bytes torn. closed_means file (old.seen file) bytes is (inl (torn_is_short file old (settled file) short bytes torn)))
     (λ bytes torn. closed_means file bytes (old.seen file) is (inl short))
+
+-- one byte at the front of a file
+laid_front : (old : List ℕ) → overlaid old 0 (0 ∷ []) ≡ 0 ∷ drop 1 old
+laid_front old =
+    let no_gap : 0 - length old ≡ 0 = omega arith in
+    rw (no_gap) refl
+
+-- the gate is laid
+pub base_gate_laid : (old new : List ℕ) → new ≡ overlaid old 0 (0 ∷ []) → HasBaseGate new
+base_gate_laid old new same = subst HasBaseGate (sym (same ∙ laid_front old)) (inr (omega arith, λ is. cc))
+
+-- reads leave the gates
+pub gates_rest : {old new : Shown} → Rests old new → AreGatesLaid old.seen → AreGatesLaid new.seen
+gates_rest rests gates = record {
+  base0 = subst HasBaseGate (sym (rests.seen Base0)) gates.base0;
+  base1 = subst HasBaseGate (sym (rests.seen Base1)) gates.base1;
+  log0 = subst HasGate (sym (rests.seen Log0)) gates.log0;
+  log1 = subst HasGate (sym (rests.seen Log1)) gates.log1;
+}
+
+-- a base file is no log
+pub base_is_not_log0 : {file : File} → IsBaseFile file → file ≢ Log0
+base_is_not_log0 (inl base) is = cc (base, is)
+base_is_not_log0 (inr base) is = cc (base, is)
+
+pub base_is_not_log1 : {file : File} → IsBaseFile file → file ≢ Log1
+base_is_not_log1 (inl base) is = cc (base, is)
+base_is_not_log1 (inr base) is = cc (base, is)
 
 -- ---- logs
 

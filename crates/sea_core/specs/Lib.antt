@@ -1,6 +1,7 @@
 pub mod Causes
 pub mod Edits
 pub mod Feeding
+pub mod Gates
 pub mod Keeping
 pub mod Sound
 pub mod Stands

@@ -1,12 +1,11 @@
 -- What the steps of a start leave, for private clauses.
-use Rattle.std.specs.Prelude.{◌≡◌, ◌⊎◌, ℕ, ◌≤◌, List, [], length}
+use Rattle.std.specs.Prelude.{◌≡◌, ◌⊎◌, ℕ, List}
 use Rattle.sea_disk.specs.declared.file.File.{File}
 use Rattle.sea_disk.specs.declared.file.File.TheVariants.{Base0, Base1, Log0, Log1}
 use Rattle.sea_disk.specs.Shown.{Files, Shown, IsImage, IsSettled}
 use Rattle.sea_disk.specs.Runs.{Leaves}
 use Rattle.sea_log.specs.declared.fault.LogFault.{LogFault}
 use Rattle.sea_log.specs.declared.fault.LogFault.TheVariants as log
-use Rattle.sea_log.specs.Records.{IsClosedAt}
 use Rattle.sea_core.specs.declared.fault.StartFault.{StartFault}
 use Rattle.sea_core.specs.declared.fault.StartFault.TheVariants as start
 use Rattle.sea_core.specs.Stands.{IsClosedBase, StandAlike, KeepsStanding}
@@ -32,10 +31,6 @@ AreClosed files = IsClosedBase (files Base0) × IsClosedBase (files Base1)
 -- the file is a log
 abbrev pub IsLogFile : File → Type 0
 IsLogFile file = (file ≡ Log0) ⊎ (file ≡ Log1)
-
--- a log that a record can be appended to: it is no short file, or its first gate is laid
-abbrev pub HasGate : List ℕ → Type 0
-HasGate bytes = (6 ≤ length bytes) ⊎ IsClosedAt bytes [] 0
 
 -- the fault of a start whose log is refused; a log that isn't written to is never full
 abbrev pub start_fault_of : LogFault → StartFault

@@ -3,6 +3,7 @@ use sea_disk::Failed;
 use sea_log::LogFault;
 use sea_plain::OpRefusal;
 use std::alloc::AllocError;
+use thiserror::Error;
 
 /// Why an entry or a feed is refused.
 #[derive(Drop)]
@@ -36,13 +37,16 @@ impl From<AllocError> for CoreFault {
 }
 
 /// Why a base can't be started.
-#[derive(Clone, Copy, Debug, PartialEq, Eq)]
+#[derive(Clone, Copy, Debug, PartialEq, Eq, Error)]
 pub enum StartFault {
     /// Memory ran out.
+    #[error("out of memory")]
     Memory,
     /// A call of the disk failed.
+    #[error("the disk failed")]
     DiskFault,
     /// The files stand for no base.
+    #[error("no base")]
     NotABase,
 }
 

@@ -4,9 +4,10 @@ ghost use Rattle.sea_disk.specs.Calls.{Rests};
 ghost use Rattle.sea_disk.specs.declared.file.File.TheVariants.{Log0};
 ghost use Rattle.sea_log.specs.Records.{IsLog, HoldsList};
 ghost use Rattle.sea_plain.specs.declared.base.Plain.{Plain};
+ghost use Rattle.sea_core.specs.Gates.{HasGate};
 ghost use Rattle.sea_core.specs.Sound.{IsReady};
 ghost use Rattle.sea_core.specs.Stands.{IsClosedBase, StandsFor};
-ghost use Rattle.sea_core.specs.Steps.{AreClosed, HasGate, IsAllSettled};
+ghost use Rattle.sea_core.specs.Steps.{AreClosed, IsAllSettled};
 ghost use Rattle.sea_core.specs.Taking.{CountsStart};
 
 use crate::fault::StartFault;

@@ -1,9 +1,10 @@
 // Making the files of a disk safe as they are.
-ghost use Rattle.std.specs.Prelude.{◌≢◌, Err, OnOk};
+ghost use Rattle.std.specs.Prelude.{◌≡◌, ◌≢◌, Err, OnOk};
 ghost use Rattle.sea_disk.specs.declared.file.File.{File};
-ghost use Rattle.sea_disk.specs.declared.file.File.TheVariants.{Log0};
+ghost use Rattle.sea_disk.specs.declared.file.File.TheVariants.{Base0, Base1, Log0, Log1};
 ghost use Rattle.sea_disk.specs.Shown.{IsSettled};
-ghost use Rattle.sea_core.specs.Steps.{Keeps, HasGate, IsAllSettled, IsBaseFile, IsLogFile};
+ghost use Rattle.sea_core.specs.Gates.{HasGate, HasBaseGate, AreGatesLaid};
+ghost use Rattle.sea_core.specs.Steps.{Keeps, IsAllSettled, IsBaseFile, IsLogFile};
 ghost use Rattle.sea_core.specs.Taking.{CountsStart, CountsFailedStart};
 
 use crate::fault::StartFault;
@@ -21,7 +22,7 @@ pub const SHORTEST_LOG: u64 = 6;
 pub fn settle<D: Disk>(disk: &mut D) -> Result<(), StartFault>
     ensures keeps { D.told → Keeps (D.shows disk.old) (D.shows disk.new) }
     ensures settled { D.told → OnOk result (IsAllSettled (D.shows disk.new)) }
-    ensures gate { D.told → OnOk result (HasGate ((D.shows disk.new).seen Log0)) }
+    ensures gates { D.told → OnOk result (AreGatesLaid (D.shows disk.new).seen) }
     ensures not_none { result ≢ Err StartFault.NotABase }
     ensures faults { CountsStart result (D.faults disk.old) (D.faults disk.new) }
     ensures failed { CountsFailedStart result (D.failed disk.old) (D.failed disk.new) }
@@ -65,6 +66,7 @@ fn sync<D: Disk>(disk: &mut D, file: File) -> Result<(), StartFault>
 fn lay_base_gates<D: Disk>(disk: &mut D) -> Result<(), StartFault>
     ensures keeps { D.told → IsAllSettled (D.shows disk.old) → Keeps (D.shows disk.old) (D.shows disk.new) }
     ensures settled { D.told → IsAllSettled (D.shows disk.old) → OnOk result (IsAllSettled (D.shows disk.new)) }
+    ensures gates { D.told → OnOk result (HasBaseGate ((D.shows disk.new).seen Base0) × HasBaseGate ((D.shows disk.new).seen Base1)) }
     ensures not_none { result ≢ Err StartFault.NotABase }
     ensures faults { CountsStart result (D.faults disk.old) (D.faults disk.new) }
     ensures failed { CountsFailedStart result (D.failed disk.old) (D.failed disk.new) }
@@ -79,6 +81,8 @@ fn lay_base_gate<D: Disk>(disk: &mut D, file: File) -> Result<(), StartFault>
     requires { IsBaseFile file }
     ensures keeps { D.told → IsAllSettled (D.shows disk.old) → Keeps (D.shows disk.old) (D.shows disk.new) }
     ensures settled { D.told → IsAllSettled (D.shows disk.old) → OnOk result (IsAllSettled (D.shows disk.new)) }
+    ensures gate { D.told → OnOk result (HasBaseGate ((D.shows disk.new).seen file)) }
+    ensures others { D.told → OnOk result ((other : File) → other ≢ file → (D.shows disk.new).seen other ≡ (D.shows disk.old).seen other) }
     ensures not_none { result ≢ Err StartFault.NotABase }
     ensures faults { CountsStart result (D.faults disk.old) (D.faults disk.new) }
     ensures failed { CountsFailedStart result (D.failed disk.old) (D.failed disk.new) }
@@ -94,7 +98,8 @@ fn lay_base_gate<D: Disk>(disk: &mut D, file: File) -> Result<(), StartFault>
 fn lay_log_gates<D: Disk>(disk: &mut D) -> Result<(), StartFault>
     ensures keeps { D.told → IsAllSettled (D.shows disk.old) → Keeps (D.shows disk.old) (D.shows disk.new) }
     ensures settled { D.told → IsAllSettled (D.shows disk.old) → OnOk result (IsAllSettled (D.shows disk.new)) }
-    ensures gate { D.told → IsAllSettled (D.shows disk.old) → OnOk result (HasGate ((D.shows disk.new).seen Log0)) }
+    ensures gates { D.told → IsAllSettled (D.shows disk.old) → OnOk result (HasGate ((D.shows disk.new).seen Log0) × HasGate ((D.shows disk.new).seen Log1)) }
+    ensures others { D.told → IsAllSettled (D.shows disk.old) → OnOk result ((other : File) → IsBaseFile other → (D.shows disk.new).seen other ≡ (D.shows disk.old).seen other) }
     ensures not_none { result ≢ Err StartFault.NotABase }
     ensures faults { CountsStart result (D.faults disk.old) (D.faults disk.new) }
     ensures failed { CountsFailedStart result (D.failed disk.old) (D.failed disk.new) }
@@ -110,6 +115,7 @@ fn lay_log_gate<D: Disk>(disk: &mut D, file: File) -> Result<(), StartFault>
     ensures keeps { D.told → IsAllSettled (D.shows disk.old) → Keeps (D.shows disk.old) (D.shows disk.new) }
     ensures settled { D.told → IsAllSettled (D.shows disk.old) → OnOk result (IsAllSettled (D.shows disk.new)) }
     ensures gate { D.told → IsAllSettled (D.shows disk.old) → OnOk result (HasGate ((D.shows disk.new).seen file)) }
+    ensures others { D.told → IsAllSettled (D.shows disk.old) → OnOk result ((other : File) → other ≢ file → (D.shows disk.new).seen other ≡ (D.shows disk.old).seen other) }
     ensures not_none { result ≢ Err StartFault.NotABase }
     ensures faults { CountsStart result (D.faults disk.old) (D.faults disk.new) }
     ensures failed { CountsFailedStart result (D.failed disk.old) (D.failed disk.new) }

@@ -4,6 +4,7 @@ ghost use Rattle.sea_disk.specs.Runs.{Leaves};
 ghost use Rattle.sea_plain.specs.declared.base.Plain.{Plain};
 ghost use Rattle.sea_core.specs.declared.fault.StartFault.TheVariants.{NotABase};
 ghost use Rattle.sea_core.specs.Causes.{StartCause};
+ghost use Rattle.sea_core.specs.Gates.{AreGatesLaid};
 ghost use Rattle.sea_core.specs.Sound.{IsReady, IsSound};
 ghost use Rattle.sea_core.specs.Stands.{StandsFor, KeepsStanding};
 ghost use Rattle.sea_core.specs.Taking.{CountsStart, CountsFailedStart};
@@ -31,6 +32,7 @@ impl<D: Disk> Core<D> {
         ensures found { D.told → IfOk result (λ core. StandsFor core.base (D.shows disk).seen) }
         ensures sound { D.told → IfOk result (λ core. IsSound D.shows core) }
         ensures fresh { IfOk result (λ core. (core.doubt ≡ None) × (core.limits ≡ limits) × (core.history ≡ []) × (core.opening ≡ core.base.version)) }
+        ensures gates { D.told → IfOk result (λ core. AreGatesLaid (D.shows core.disk).seen) }
         ensures no_base { D.told → IfErr result (λ refused. refused.0 ≡ NotABase → (base : Plain) → ¬ StandsFor base (D.shows disk).seen) }
         ensures any_moment { D.told → IfOk result (λ core. Leaves (D.shows disk) (D.shows core.disk) (KeepsStanding (D.shows disk))) }
         ensures any_moment_refused { D.told → IfErr result (λ refused. Leaves (D.shows disk) (D.shows refused.1) (KeepsStanding (D.shows disk))) }
@@ -58,6 +60,7 @@ impl<D: Disk> Core<D> {
 fn find<D: Disk>(alloc: Global, disk: &mut D) -> Result<(Plain, u64), StartFault>
     ensures found { D.told → IfOk result (λ pair. StandsFor pair.0 (D.shows disk.old).seen) }
     ensures ready { D.told → IfOk result (λ pair. IsReady (D.shows disk.new) pair.0 pair.1) }
+    ensures gates { D.told → IfOk result (λ _. AreGatesLaid (D.shows disk.new).seen) }
     ensures none { D.told → IsErrOf result StartFault.NotABase → (base : Plain) → ¬ StandsFor base (D.shows disk.old).seen }
     ensures leaves { D.told → Leaves (D.shows disk.old) (D.shows disk.new) (KeepsStanding (D.shows disk.old)) }
     ensures faults { CountsStart result (D.faults disk.old) (D.faults disk.new) }

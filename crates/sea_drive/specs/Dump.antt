@@ -6,7 +6,7 @@ use Rattle.serde_json.specs.Data.{Data, string, object, Members, no_members, mem
 use Rattle.serde_json.specs.Written.{compact_text}
 use Rattle.sea_disk.specs.Shown.{Shown}
 use Rattle.sea_cell.specs.Cells.{cell_in}
-use Rattle.sea_cell.specs.Conversion.{json_of}
+use Rattle.sea_cell.specs.Conversion.{json_of, texts_json}
 use Rattle.sea_cell.specs.declared.cellular.Row.{Row}
 use Rattle.sea_cell.specs.declared.layout.Column.{Column}
 use Rattle.sea_cell.specs.declared.values.CellValue.{CellValue}
@@ -17,7 +17,6 @@ use Rattle.sea_plain.specs.declared.linked.TableRows.{TableRows}
 use Rattle.sea_core.specs.declared.kept.Core.{Core}
 use Rattle.sea_core.specs.declared.limits.Limits.{Limits}
 use Rattle.sea_drive.specs.Play.{IsNotStarted}
-use Rattle.sea_drive.specs.Reply.{texts_json}
 use Rattle.sea_drive.specs.Steps.{Starts}
 use Rattle.sea_drive.specs.declared.dumping.DumpFault.{DumpFault}
 use Rattle.sea_drive.specs.declared.dumping.DumpFault.TheVariants as fault

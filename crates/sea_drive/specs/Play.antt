@@ -163,10 +163,12 @@ abbrev pub IsCaused : Bool → ℕ → ℕ → Type 0
 IsCaused true before now = (before ≤ now) × Rose before now
 IsCaused false before now = now ≡ before
 
--- the disk's count of faults never falls, and it rose where a status tells of a fault of the disk
+-- The disk's count of faults never falls. It rose where a status tells of a fault of the disk, and stands as it was where
+-- one tells that all was done.
 pub record CountsDisk (status : Status) (before now : ℕ) : Type 0 where
   pub later : before ≤ now
   pub cause : status ≡ DiskFault → Rose before now
+  pub still : status ≡ Done → now ≡ before
 
 -- ---- while a script is played
 

@@ -3,16 +3,12 @@ use Rattle.std.specs.Prelude.{ℕ, List, [], ◌∷◌, ◌++◌, map, Option, S
 use Rattle.serde_json.specs.Data.{Data, null, number, unsigned, string, array, object, member, no_members}
 use Rattle.serde_json.specs.View.{items_of}
 use Rattle.serde_json.specs.Written.{compact_text}
-use Rattle.sea_cell.specs.Conversion.{json_of}
+use Rattle.sea_cell.specs.Conversion.{json_of, texts_json}
 use Rattle.sea_cell.specs.declared.values.CellValue.{CellValue}
 use Rattle.sea_drive.specs.declared.outcome.LineOutcome.{LineOutcome}
 use Rattle.sea_drive.specs.declared.outcome.LineOutcome.TheVariants.{Silent, Version, Reopened, Rows, Fed, FeedGone, FeedAhead, Refusal, BaseFailed, LogFull, DiskFault, NotABase, BadLine, NotYet}
 use Rattle.sea_drive.specs.Fed.{feed_json, gone_json, ahead_json}
 use Rattle.sea_drive.specs.Refused.{error_json, refusal_json}
-
--- an array of texts
-abbrev pub texts_json : List (List ℕ) → Data
-texts_json texts = array (items_of (map string texts))
 
 -- an array of the cells of a row
 abbrev pub row_json : List CellValue → Data

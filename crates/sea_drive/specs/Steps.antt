@@ -1,8 +1,7 @@
 -- What a line makes of a core, where `told` and `shows` are of its disk, and `clock` is what the clock tells.
-use Rattle.std.specs.Prelude.{◌≡◌, ◌⊎◌, true, ℕ, ◌≤◌, ℤ, List, [], Option, Some, None, Result}
+use Rattle.std.specs.Prelude.{◌≡◌, ◌⊎◌, ℕ, ℤ, List, [], Option, Some, None, Result}
 use Rattle.sea_edge.specs.Minutes.{Tells}
 use Rattle.sea_disk.specs.Shown.{Shown}
-use Rattle.sea_disk.specs.Calls.{Rose}
 use Rattle.sea_disk.specs.Runs.{Leaves}
 use Rattle.sea_cell.specs.declared.keys.Moment.{Moment}
 use Rattle.sea_plain.specs.declared.base.Plain.{Plain}
@@ -27,7 +26,7 @@ use Rattle.sea_drive.specs.declared.outcome.LineOutcome.{LineOutcome}
 use Rattle.sea_drive.specs.declared.outcome.LineOutcome.TheVariants as outcome
 use Rattle.sea_drive.specs.Asked.{asked_by}
 use Rattle.sea_drive.specs.Feeds.{feed_words, feed_outcome}
-use Rattle.sea_drive.specs.Outcome.{entry_of, edit_outcome, select_outcome, is_disk_fault}
+use Rattle.sea_drive.specs.Outcome.{entry_of, edit_outcome, select_outcome}
 use Rattle.sea_drive.specs.Select.{select_of}
 use Rattle.sea_drive.specs.Texts.{without_return}
 
@@ -91,8 +90,3 @@ VerbStep clock told shows core _ rest (Refused fault back) = ⊥
 -- the same of a line
 unfoldable pub LineStep : {D : Type 0} → Option ℤ → Type 0 → (D → Shown) → Core D → List ℕ → Played D → Type 0
 LineStep clock told shows core line played = let asked = asked_by (without_return line) in VerbStep clock told shows core asked.0 asked.1 played
-
--- The disk's count of faults rose where a fault of the disk came, and never falls.
-abbrev pub Counted : {D : Type 0} → (D → ℕ) → Core D → Played D → Type 0
-Counted faults core (On result new) = (faults core.disk ≤ faults new.disk) × (is_disk_fault result ≡ true → Rose (faults core.disk) (faults new.disk))
-Counted faults core (Refused fault back) = (faults core.disk ≤ faults back) × (fault ≡ start.DiskFault → Rose (faults core.disk) (faults back))

@@ -2,15 +2,16 @@
 use Rattle.std.specs.Prelude.{◌≡◌, ◌⊎◌, ℕ, ◌+◌, ◌-◌, ◌≤◌, ◌<◌, ℤ, List, Bool, true, false, ◌||◌, is_none, Option, Some, None}
 use Rattle.std.specs.Io.KnownBytes.{Appends}
 use Rattle.sea_disk.specs.Shown.{Shown}
-use Rattle.sea_edge.specs.Faults.{Rose}
+use Rattle.sea_core.specs.Causes.{StartCause}
 use Rattle.sea_core.specs.declared.kept.Core.{Core}
 use Rattle.sea_core.specs.declared.limits.Limits.{Limits}
 use Rattle.sea_core.specs.declared.fault.StartFault.{StartFault}
 use Rattle.sea_drive.specs.Lines.{Place, input_limit}
 use Rattle.sea_drive.specs.Outcome.{start_outcome, is_disk_fault}
-use Rattle.sea_drive.specs.Play.{Ends, Goes, Writes, start_status, is_source_fault, is_sink_fault, CountsDisk}
+use Rattle.sea_drive.specs.Play.{Ends, Goes, Writes, start_status, is_source_fault, is_sink_fault, IsCaused, CountsDisk}
 use Rattle.sea_drive.specs.Reply.{reply_line}
 use Rattle.sea_drive.specs.Steps.{LineStep}
+use Rattle.sea_drive.specs.declared.line.Played.{Played}
 use Rattle.sea_drive.specs.declared.line.Played.TheVariants.{On as GoesOn, Refused}
 use Rattle.sea_drive.specs.declared.outcome.LineOutcome.{LineOutcome}
 use Rattle.sea_drive.specs.declared.ending.Status.{Status}
@@ -50,15 +51,15 @@ abbrev pub ends_by : (Status → Bool) → Option Status → Bool
 ends_by tells None = false
 ends_by tells (Some status) = tells status
 
--- the count never falls, and it rose where a line met a fault of the disk
-pub record HasCounted (before now : ℕ) (faulted : Bool) : Type 0 where
-  pub later : before ≤ now
-  pub cause : faulted ≡ true → Rose before now
+-- a line's count of the disk's faults: it rose exactly where a fault of the disk came
+abbrev pub Counted : {D : Type 0} → (D → ℕ) → Core D → Played D → Type 0
+Counted faults core (GoesOn result new) = IsCaused (is_disk_fault result) (faults core.disk) (faults new.disk)
+Counted faults core (Refused fault back) = StartCause fault (faults core.disk) (faults back)
 
--- The disk's count of faults rose since `start` where the script met a fault of the disk, and never falls.
+-- the same of a script since its count was `first`
 abbrev pub CountsTurn : {D : Type 0} → (D → ℕ) → ℕ → Turn D → Type 0
-CountsTurn faults start (On next) = HasCounted start (faults next.core.disk) next.faulted
-CountsTurn faults start (End status back) = CountsDisk status start (faults back)
+CountsTurn faults first (On next) = IsCaused next.faulted first (faults next.core.disk)
+CountsTurn faults first (End status back) = CountsDisk status first (faults back)
 
 -- the next turn begins behind the line that this one read
 abbrev pub ReadsOn : {D : Type 0} → ℕ → ℕ → Turn D → Type 0

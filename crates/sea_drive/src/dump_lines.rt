@@ -5,9 +5,8 @@ ghost use Rattle.serde_json.specs.View.{view, members_view};
 ghost use Rattle.serde_json.specs.Written.{has_float};
 ghost use Rattle.sea_drive.specs.Dump.{json_line as json_line_of, row_json as row_json_of, row_line as row_line_of, table_json as table_json_of, table_line as table_line_of, with_filled, with_shown};
 
-use crate::reply::texts_json;
 use crate::select::names_of;
-use sea_cell::{CellValue, Column, Row, cell_in, json_of_cell};
+use sea_cell::{CellValue, Column, Row, cell_in, json_of_cell, texts_json};
 use sea_plain::TableRows;
 use serde_json::{Map, Value, json, put};
 use std::alloc::{AllocError, Global};

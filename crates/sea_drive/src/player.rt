@@ -7,7 +7,7 @@ ghost use Rattle.sea_drive.specs.Lines.{KeepsTotal, TakesWithin};
 ghost use Rattle.sea_drive.specs.Outcome.{start_outcome as start_outcome_of, is_disk_fault as is_disk_fault_of};
 ghost use Rattle.sea_drive.specs.Play.{Ends, Goes, IsCaused, CountsDisk, is_source_fault, is_sink_fault, Writes, WritesPiece, end_status as end_status_of, fault_status as fault_status_of, start_status as start_status_of};
 ghost use Rattle.sea_drive.specs.Reader.{place_of};
-ghost use Rattle.sea_drive.specs.Turns.{PlaysOn, Turns, HasCounted, has_source_fault, has_sink_fault, ends_by, CountsTurn, ReadsOn};
+ghost use Rattle.sea_drive.specs.Turns.{PlaysOn, Turns, has_source_fault, has_sink_fault, ends_by, CountsTurn, ReadsOn};
 
 use crate::ending::Status;
 use crate::line::Played;
@@ -71,7 +71,7 @@ fn turn<S: Source, K: Sink, D: Disk, C: Clock>(
 ) -> Turn<D>
     ensures turns { (limits : Limits) (disk : D) (input taken : Option (List ℕ)) → Goes (C.told clock.old) D.told D.shows limits disk input (place_of reader.old (S.left source.old)) player.core taken (K.taken sink.old) player.wanted player.faulted
         → Turns (C.told clock.old) D.told D.shows limits disk input (S.left source.new) (place_of reader.new (S.left source.new)) taken (K.taken sink.new) result }
-    ensures disk { (start : ℕ) → HasCounted start (D.faults player.core.disk) player.faulted → CountsTurn D.faults start result }
+    ensures disk { (first : ℕ) → IsCaused player.faulted first (D.faults player.core.disk) → CountsTurn D.faults first result }
     ensures source { IsCaused (has_source_fault result) (S.faults source.old) (S.faults source.new) }
     ensures sink { IsCaused (has_sink_fault result) (K.faults sink.old) (K.faults sink.new) }
     ensures clock { C.told clock.new ≡ C.told clock.old }
@@ -153,7 +153,7 @@ impl<D: Disk> Player<D> {
         clock: &mut C,
     ) -> Turn<D>
         ensures plays { PlaysOn (C.told clock.old) D.told D.shows self line.now result (K.taken sink.old) (K.taken sink.new) }
-        ensures disk { (start : ℕ) → HasCounted start (D.faults self.core.disk) self.faulted → CountsTurn D.faults start result }
+        ensures disk { (first : ℕ) → IsCaused self.faulted first (D.faults self.core.disk) → CountsTurn D.faults first result }
         ensures sink { IsCaused (has_sink_fault result) (K.faults sink.old) (K.faults sink.new) }
         ensures source { has_source_fault result ≡ false }
         ensures clock { C.told clock.new ≡ C.told clock.old }

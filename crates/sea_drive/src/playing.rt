@@ -1,12 +1,13 @@
 // Playing one line.
-ghost use Rattle.std.specs.Prelude.{◌≡◌, ◌≤◌, ◌⊎◌, ℤ, ℕ, List, Option, Some, None, true, false, IsUtf8, IfOk};
-ghost use Rattle.sea_disk.specs.Calls.{Rose};
+ghost use Rattle.std.specs.Prelude.{◌≡◌, ◌⊎◌, ℤ, ℕ, List, Option, Some, None, false, IsUtf8, IfOk};
 ghost use Rattle.sea_edge.specs.Minutes.{Tells};
 ghost use Rattle.sea_moment.specs.Moment.{IsMoment};
 ghost use Rattle.sea_ops.specs.Operations.{op_of};
 ghost use Rattle.sea_drive.specs.Outcome.{edit_outcome as edit_outcome_of, select_outcome, is_disk_fault};
 ghost use Rattle.sea_drive.specs.Select.{select_of};
-ghost use Rattle.sea_drive.specs.Steps.{LineStep, VerbStep, Stays, Edits, EditsText, Counted};
+ghost use Rattle.sea_drive.specs.Play.{IsCaused};
+ghost use Rattle.sea_drive.specs.Steps.{LineStep, VerbStep, Stays, Edits, EditsText};
+ghost use Rattle.sea_drive.specs.Turns.{Counted};
 
 use crate::asked::{Verb, asked_by};
 use crate::feed::play_feed;
@@ -79,8 +80,7 @@ fn play_edit<D: Disk, C: Clock>(
     text: &str,
 ) -> Option<LineOutcome>
     ensures step { Stays core.old None result core.new ⊎ EditsText (C.told clock.old) D.told D.shows core.old (op_of text.now) result core.new }
-    ensures later { D.faults core.old.disk ≤ D.faults core.new.disk }
-    ensures cause { is_disk_fault result ≡ true → Rose (D.faults core.old.disk) (D.faults core.new.disk) }
+    ensures counted { IsCaused (is_disk_fault result) (D.faults core.old.disk) (D.faults core.new.disk) }
     ensures clock { C.told clock.new ≡ C.told clock.old }
 {
     let op = match op_of_json(alloc, text.as_bytes()) {
@@ -112,8 +112,7 @@ fn edit<D: Disk>(core: &mut Core<D>, entry: Entry) -> Option<LineOutcome>
     requires user { IsUtf8 entry.user }
     requires form { (text : List ℕ) × (op_of text ≡ Some entry.op) }
     ensures edits { Edits D.told D.shows core.old entry result core.new }
-    ensures later { D.faults core.old.disk ≤ D.faults core.new.disk }
-    ensures cause { is_disk_fault result ≡ true → Rose (D.faults core.old.disk) (D.faults core.new.disk) }
+    ensures counted { IsCaused (is_disk_fault result) (D.faults core.old.disk) (D.faults core.new.disk) }
 {
     edit_outcome(core.edit(entry))
 }

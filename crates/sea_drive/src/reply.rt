@@ -1,14 +1,13 @@
 // The lines that are written for outcomes.
 ghost use Rattle.std.specs.Prelude.{◌≡◌, IfOk, Some, None, map};
 ghost use Rattle.sea_cell.specs.Conversion.{json_of};
-ghost use Rattle.serde_json.specs.Data.{string};
 ghost use Rattle.serde_json.specs.View.{view};
-ghost use Rattle.sea_drive.specs.Reply.{texts_json as texts_json_of, row_json as row_json_of, rows_json as rows_json_of, outcome_json as outcome_json_of, outcome_line, reply_line};
+ghost use Rattle.sea_drive.specs.Reply.{row_json as row_json_of, rows_json as rows_json_of, outcome_json as outcome_json_of, outcome_line, reply_line};
 
 use crate::fed::{ahead_json, feed_json, gone_json};
 use crate::outcome::{Answer, AnswerRow, LineOutcome};
 use crate::refused::{error_json, refusal_json};
-use sea_cell::{CellValue, Text, json_of_cell};
+use sea_cell::{CellValue, json_of_cell, texts_json};
 use sea_ops::operations_have_no_float;
 use serde_json::{Value, json};
 use std::alloc::{AllocError, Global};
@@ -87,23 +86,6 @@ fn full_json(alloc: Global, size: u64) -> Result<Value, AllocError>
     ensures { IfOk result (λ json. view json ≡ outcome_json_of (LineOutcome.LogFull size)) }
 {
     json!(in alloc; {"error": "LogFull", "size": size})
-}
-
-/// An array of texts.
-pub fn texts_json(alloc: Global, texts: &[Text]) -> Result<Value, AllocError>
-    ensures { IfOk result (λ json. view json ≡ texts_json_of texts.now) }
-{
-    Ok(Value::Array(strings(alloc, texts)?))
-}
-
-fn strings(alloc: Global, texts: &[Text]) -> Result<Vec<Value>, AllocError>
-    ensures { IfOk result (λ items. map view items.items ≡ map string texts.now) }
-{
-    let mut items = Vec::with_capacity(alloc, texts.len())?;
-    for text in texts {
-        items.push(Value::String(String::from_str(alloc, text.as_str())?))?;
-    }
-    Ok(items)
 }
 
 // An array of rows.

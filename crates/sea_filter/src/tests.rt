@@ -3,6 +3,7 @@ use sea_cell::{
     CellValue, Cells, ColKey, ColKind, Column, Columns, Filter, Filters, Ids, Moment, Row, RowId,
     Rows, Shared, Term, Test, Text, Texts, View,
 };
+use sqlite_items::Items;
 use std::alloc::{AllocError, Global};
 use std::test::Fail;
 
@@ -19,7 +20,7 @@ const KINDS: [ColKind; 8] = [
 ];
 
 fn columns_of(alloc: Global) -> Result<Columns, AllocError> {
-    let mut columns = Columns::new(alloc);
+    let mut columns = Items::new(alloc);
     let mut key = 0;
     for kind in KINDS {
         if key < 8 {
@@ -34,7 +35,7 @@ fn columns_of(alloc: Global) -> Result<Columns, AllocError> {
             other: None,
         })?;
     }
-    Ok(columns)
+    Columns::of(alloc, columns)
 }
 
 // The texts between commas.

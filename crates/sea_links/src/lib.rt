@@ -4,7 +4,7 @@
 //! pairs in the order in which they were added, none of them twice, and after each call the list that `specs/Pairs.antt`
 //! defines. A removal takes no memory, and want of memory at an addition leaves the list as it was. `PairIndex` keeps the
 //! pairs under rising numbers, with the numbers of each row's pairs on both sides, and the invariant of `Links` says that
-//! they are these.
+//! they are these. No program holds `Links` yet; the plain base keeps a list of the same pairs.
 #![tactic(auto)]
 
 mod fault;

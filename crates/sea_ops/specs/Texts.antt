@@ -4,6 +4,7 @@ use Rattle.serde_json.specs.Data.{Data, null, boolean, number, string, array, ob
 use Rattle.serde_json.specs.Find.{of_integer}
 use Rattle.serde_json.specs.View.{items_of}
 use Rattle.serde_json.specs.Written.{compact_text}
+use Rattle.sea_cell.specs.Conversion.{texts_json, ids_json}
 use Rattle.sea_cell.specs.Kinds.{word_of_kind}
 use Rattle.sea_cell.specs.declared.keys.RowId.{RowId}
 use Rattle.sea_cell.specs.declared.layout.ColKind.{ColKind}
@@ -30,14 +31,6 @@ is_whole (negsuc n) = nat_lt n (2 ^ 63)
 -- what stands for all JSON that no column takes
 abbrev pub odd : Data
 odd = object no_members
-
--- an array of texts
-abbrev pub texts_json : List (List ℕ) → Data
-texts_json texts = array (items_of (map string texts))
-
--- an array of ids
-abbrev pub ids_json : List RowId → Data
-ids_json ids = array (items_of (map (λ id. string id.0) ids))
 
 -- an integer; one of more than 64 bits is no word of a cell
 abbrev pub whole_json : ℤ → Data

@@ -2,37 +2,15 @@
 ghost use Rattle.std.specs.Prelude.{◌≡◌, not, IfOk, option_map, option_and_then};
 ghost use Rattle.std.specs.List.{list_all};
 ghost use Rattle.serde_json.specs.Find.{get};
-ghost use Rattle.serde_json.specs.View.{view, items_view};
-ghost use Rattle.sea_ops.specs.Operations.{each_of, each_at, column_of_json as column_of_data, column_of_kind as column_of_kind_data, plain_of as plain_of_data, number_of as number_of_data, select_of as select_of_data, link_of as link_of_data, unit_of as unit_of_data, options_of as options_of_data, may_be_first as may_be_first_kind, is_link as is_link_kind, make_table as make_table_columns, leads_away as leads_away_column};
+ghost use Rattle.serde_json.specs.View.{view};
+ghost use Rattle.sea_ops.specs.Operations.{column_of_json as column_of_data, column_of_kind as column_of_kind_data, plain_of as plain_of_data, number_of as number_of_data, select_of as select_of_data, link_of as link_of_data, unit_of as unit_of_data, options_of as options_of_data, may_be_first as may_be_first_kind, is_link as is_link_kind, make_table as make_table_columns, leads_away as leads_away_column};
 
-use crate::members::{count_at, has_members, items_at, items_of, text_at, texts_of};
-use sea_cell::{ColKind, NewColumn, NewColumns, NewEnd, Text, Texts, kind_of_word};
+use crate::arrays::OfJson;
+use crate::members::{count_at, has_members, items_of, text_at};
+use sea_cell::{ColKind, NewColumn, NewColumns, NewEnd, Text, Texts, kind_of_word, texts_of};
 use serde_json::Value;
 use sqlite_items::Items;
 use std::alloc::{AllocError, Global};
-
-/// The columns of the array under a name, or None where there is no array of nothing but columns.
-pub fn columns_at(alloc: Global, json: &Value, name: &str) -> Result<Option<NewColumns>, AllocError>
-    ensures { IfOk result (λ columns. columns ≡ each_at column_of_data name.now (view json.now)) }
-{
-    match items_at(json, name) {
-        Some(items) => columns_of(alloc, items),
-        None => Ok(None),
-    }
-}
-
-fn columns_of(alloc: Global, items: &[Value]) -> Result<Option<NewColumns>, AllocError>
-    ensures { IfOk result (λ columns. columns ≡ each_of column_of_data (items_view items.now)) }
-{
-    let mut columns = Items::new(alloc);
-    for item in items {
-        match column_of_json(alloc, item)? {
-            Some(column) => columns.push(column)?,
-            None => return Ok(None),
-        }
-    }
-    Ok(Some(columns))
-}
 
 /// The column under a name.
 pub fn column_at(alloc: Global, json: &Value, name: &str) -> Result<Option<NewColumn>, AllocError>
@@ -41,6 +19,14 @@ pub fn column_at(alloc: Global, json: &Value, name: &str) -> Result<Option<NewCo
     match json.get(name) {
         Some(value) => column_of_json(alloc, value),
         None => Ok(None),
+    }
+}
+
+impl OfJson for NewColumn {
+    ghost meaning = { column_of_data };
+
+    fn of_json(alloc: Global, json: &Value) -> Result<Option<NewColumn>, AllocError> {
+        column_of_json(alloc, json)
     }
 }
 

@@ -5,7 +5,7 @@ ghost use Rattle.serde_json.specs.View.{view, items_view};
 ghost use Rattle.sea_cell.specs.Words.{texts_of as texts_of_items};
 ghost use Rattle.sea_ops.specs.Operations.{has_members as has_members_of, text_at as text_at_of, items_at as items_at_of, texts_at as texts_at_of, ids_at as ids_at_of, row_id as row_id_of, count_at as count_at_of};
 
-use sea_cell::{Ids, RowId, Text, Texts};
+use sea_cell::{Ids, RowId, Text, Texts, texts_of};
 use serde_json::Value;
 use sqlite_items::Items;
 use std::alloc::{AllocError, Global};
@@ -68,20 +68,6 @@ pub fn texts_at(alloc: Global, json: &Value, name: &str) -> Result<Option<Texts>
         Some(items) => texts_of(alloc, items),
         None => Ok(None),
     }
-}
-
-/// The texts of an array, or None where an item is no text.
-pub fn texts_of(alloc: Global, items: &[Value]) -> Result<Option<Texts>, AllocError>
-    ensures { IfOk result (λ texts. texts ≡ texts_of_items (items_view items.now)) }
-{
-    let mut texts = Items::new(alloc);
-    for item in items {
-        let Some(text) = item.as_str() else {
-            return Ok(None);
-        };
-        texts.push(Text::copy_of(alloc, text)?)?;
-    }
-    Ok(Some(texts))
 }
 
 /// The ids of the array under a name.

@@ -4,10 +4,10 @@ ghost use Rattle.serde_json.specs.Read.{read};
 ghost use Rattle.serde_json.specs.View.{view};
 ghost use Rattle.sea_ops.specs.Operations.{op_of, op_of_json as op_of_data, table_op as table_op_of, column_op as column_op_of, row_op as row_op_of, link_op as link_op_of, view_op as view_op_of, insert_table_of, rename_table_of, delete_table_of, insert_column_of, rename_column_of, delete_column_of, add_options_of, append_rows_of, modify_rows_of, delete_rows_of, add_link_of, remove_link_of, insert_view_of, modify_view_of, delete_view_of};
 
-use crate::columns::{column_at, columns_at, leads_away, make_table};
+use crate::arrays::list_at;
+use crate::columns::{column_at, leads_away, make_table};
 use crate::fault::OpFault;
 use crate::members::{has_members, id_at, ids_at, text_at, texts_at};
-use crate::rows::{changes_at, rows_at};
 use crate::views::view_at;
 use sea_cell::Text;
 use sea_plain::Op;
@@ -160,7 +160,7 @@ fn insert_table(alloc: Global, json: &Value, table: &str) -> Result<Option<Op>, 
     if !has_members(json, 3) {
         return Ok(None);
     }
-    let Some(columns) = columns_at(alloc, json, "columns")? else {
+    let Some(columns) = list_at(alloc, json, "columns")? else {
         return Ok(None);
     };
     if !make_table(columns.as_slice()) {
@@ -277,7 +277,7 @@ fn append_rows(alloc: Global, json: &Value, table: &str) -> Result<Option<Op>, A
     if !has_members(json, 3) {
         return Ok(None);
     }
-    let Some(rows) = rows_at(alloc, json, "rows")? else {
+    let Some(rows) = list_at(alloc, json, "rows")? else {
         return Ok(None);
     };
     let table = Text::copy_of(alloc, table)?;
@@ -291,7 +291,7 @@ fn modify_rows(alloc: Global, json: &Value, table: &str) -> Result<Option<Op>, A
     if !has_members(json, 3) {
         return Ok(None);
     }
-    let Some(rows) = changes_at(alloc, json, "rows")? else {
+    let Some(rows) = list_at(alloc, json, "rows")? else {
         return Ok(None);
     };
     let table = Text::copy_of(alloc, table)?;

@@ -1,59 +1,30 @@
 // Reading the rows of operations.
 ghost use Rattle.std.specs.Prelude.{◌≡◌, IfOk};
-ghost use Rattle.serde_json.specs.View.{view, items_view, members_view};
-ghost use Rattle.sea_ops.specs.Operations.{each_of, each_at, row_of_json as row_of_data, change_of_json as change_of_data, change_of_row as change_of_row_data, cells_of_members as cells_of};
+ghost use Rattle.serde_json.specs.View.{view, members_view};
+ghost use Rattle.sea_ops.specs.Operations.{row_of_json as row_of_data, change_of_json as change_of_data, change_of_row as change_of_row_data, cells_of_members as cells_of};
 
-use crate::members::items_at;
+use crate::arrays::OfJson;
 use sea_cell::{RowId, Text, word_of_json};
-use sea_plain::{NamedCell, NamedCells, OpRow, OpRows, RowChange, RowChanges};
+use sea_plain::{NamedCell, NamedCells, OpRow, RowChange};
 use serde_json::{Map, Value};
 use sqlite_items::Items;
 use std::alloc::{AllocError, Global};
 
-/// The rows of the array under a name, or None where there is no array of nothing but rows.
-pub fn rows_at(alloc: Global, json: &Value, name: &str) -> Result<Option<OpRows>, AllocError>
-    ensures { IfOk result (λ rows. rows ≡ each_at row_of_data name.now (view json.now)) }
-{
-    match items_at(json, name) {
-        Some(items) => rows_of(alloc, items),
-        None => Ok(None),
+impl OfJson for OpRow {
+    ghost meaning = { row_of_data };
+
+    fn of_json(alloc: Global, json: &Value) -> Result<Option<OpRow>, AllocError> {
+        row_of_json(alloc, json)
     }
 }
 
-fn rows_of(alloc: Global, items: &[Value]) -> Result<Option<OpRows>, AllocError>
-    ensures { IfOk result (λ rows. rows ≡ each_of row_of_data (items_view items.now)) }
-{
-    let mut rows = Items::new(alloc);
-    for item in items {
-        match row_of_json(alloc, item)? {
-            Some(row) => rows.push(row)?,
-            None => return Ok(None),
-        }
-    }
-    Ok(Some(rows))
-}
+// The change of a row is a row with an id.
+impl OfJson for RowChange {
+    ghost meaning = { change_of_data };
 
-/// The changes of rows in the array under a name, each a row with an id.
-pub fn changes_at(alloc: Global, json: &Value, name: &str) -> Result<Option<RowChanges>, AllocError>
-    ensures { IfOk result (λ changes. changes ≡ each_at change_of_data name.now (view json.now)) }
-{
-    match items_at(json, name) {
-        Some(items) => changes_of(alloc, items),
-        None => Ok(None),
+    fn of_json(alloc: Global, json: &Value) -> Result<Option<RowChange>, AllocError> {
+        change_of_json(alloc, json)
     }
-}
-
-fn changes_of(alloc: Global, items: &[Value]) -> Result<Option<RowChanges>, AllocError>
-    ensures { IfOk result (λ changes. changes ≡ each_of change_of_data (items_view items.now)) }
-{
-    let mut changes = Items::new(alloc);
-    for item in items {
-        match change_of_json(alloc, item)? {
-            Some(change) => changes.push(change)?,
-            None => return Ok(None),
-        }
-    }
-    Ok(Some(changes))
 }
 
 fn change_of_json(alloc: Global, json: &Value) -> Result<Option<RowChange>, AllocError>

@@ -1,14 +1,14 @@
 // Reading the views of operations.
 ghost use Rattle.std.specs.Prelude.{◌≡◌, IfOk, option_and_then};
 ghost use Rattle.serde_json.specs.Find.{get};
-ghost use Rattle.serde_json.specs.View.{view, items_view};
-ghost use Rattle.sea_ops.specs.Operations.{each_of, each_at, view_of_json as view_of_data, filter_of_json as filter_of_data, conjunction_of as conjunction_of_text};
+ghost use Rattle.serde_json.specs.View.{view};
+ghost use Rattle.sea_ops.specs.Operations.{view_of_json as view_of_data, filter_of_json as filter_of_data, conjunction_of as conjunction_of_text};
 
-use crate::members::{has_members, items_at, text_at};
+use crate::arrays::{OfJson, list_at};
+use crate::members::{has_members, text_at};
 use sea_cell::{Text, word_of_json};
-use sea_plain::{NewFilter, NewFilters, NewView};
+use sea_plain::{NewFilter, NewView};
 use serde_json::Value;
-use sqlite_items::Items;
 use std::alloc::{AllocError, Global};
 
 /// The view under a name.
@@ -36,7 +36,7 @@ fn view_of_json(alloc: Global, json: &Value) -> Result<Option<NewView>, AllocErr
     let Some(all) = conjunction_of(word) else {
         return Ok(None);
     };
-    let Some(filters) = filters_at(alloc, json, "filters")? else {
+    let Some(filters) = list_at(alloc, json, "filters")? else {
         return Ok(None);
     };
     let name = Text::copy_of(alloc, name)?;
@@ -56,26 +56,12 @@ fn conjunction_of(word: &str) -> Option<bool>
     None
 }
 
-fn filters_at(alloc: Global, json: &Value, name: &str) -> Result<Option<NewFilters>, AllocError>
-    ensures { IfOk result (λ filters. filters ≡ each_at filter_of_data name.now (view json.now)) }
-{
-    match items_at(json, name) {
-        Some(items) => filters_of(alloc, items),
-        None => Ok(None),
-    }
-}
+impl OfJson for NewFilter {
+    ghost meaning = { filter_of_data };
 
-fn filters_of(alloc: Global, items: &[Value]) -> Result<Option<NewFilters>, AllocError>
-    ensures { IfOk result (λ filters. filters ≡ each_of filter_of_data (items_view items.now)) }
-{
-    let mut filters = Items::new(alloc);
-    for item in items {
-        match filter_of_json(alloc, item)? {
-            Some(filter) => filters.push(filter)?,
-            None => return Ok(None),
-        }
+    fn of_json(alloc: Global, json: &Value) -> Result<Option<NewFilter>, AllocError> {
+        filter_of_json(alloc, json)
     }
-    Ok(Some(filters))
 }
 
 fn filter_of_json(alloc: Global, json: &Value) -> Result<Option<NewFilter>, AllocError>

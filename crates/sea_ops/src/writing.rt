@@ -1,11 +1,12 @@
 // Writing operations.
-ghost use Rattle.std.specs.Prelude.{◌≡◌, IfOk, OnOk, map};
+ghost use Rattle.std.specs.Prelude.{◌≡◌, IfOk, OnOk};
 ghost use Rattle.serde_json.specs.Data.{string, no_members, put as put_of};
 ghost use Rattle.serde_json.specs.View.{view, members_view};
-ghost use Rattle.sea_ops.specs.Texts.{text_of, json_of, insert_table_json as insert_table_json_of, insert_column_json as insert_column_json_of, add_options_json as add_options_json_of, append_rows_json as append_rows_json_of, modify_rows_json as modify_rows_json_of, delete_rows_json as delete_rows_json_of, links_json as links_json_of, put_view_json as put_view_json_of, rename_table_json as rename_table_json_of, delete_table_json as delete_table_json_of, rename_column_json as rename_column_json_of, delete_column_json as delete_column_json_of, delete_view_json as delete_view_json_of, columns_json as columns_json_of, column_json as column_json_of, number_column_json as number_column_json_of, select_column_json as select_column_json_of, link_column_json as link_column_json_of, plain_column_json as plain_column_json_of, with_id_json as with_id_json_of, rows_json as rows_json_of, row_json as row_json_of, changes_json as changes_json_of, change_json as change_json_of, filters_json as filters_json_of, filter_json as filter_json_of, view_json as view_json_of, conjunction_word as conjunction_word_of, with_cells, json_of_word, texts_json as texts_json_of, ids_json as ids_json_of, whole_json as whole_json_of};
+ghost use Rattle.sea_ops.specs.Texts.{text_of, json_of, insert_table_json as insert_table_json_of, insert_column_json as insert_column_json_of, add_options_json as add_options_json_of, append_rows_json as append_rows_json_of, modify_rows_json as modify_rows_json_of, delete_rows_json as delete_rows_json_of, links_json as links_json_of, put_view_json as put_view_json_of, rename_table_json as rename_table_json_of, delete_table_json as delete_table_json_of, rename_column_json as rename_column_json_of, delete_column_json as delete_column_json_of, delete_view_json as delete_view_json_of, column_json as column_json_of, number_column_json as number_column_json_of, select_column_json as select_column_json_of, link_column_json as link_column_json_of, plain_column_json as plain_column_json_of, with_id_json as with_id_json_of, row_json as row_json_of, change_json as change_json_of, filter_json as filter_json_of, view_json as view_json_of, conjunction_word as conjunction_word_of, with_cells, json_of_word, whole_json as whole_json_of};
 
+use crate::arrays::{ToJson, array_json};
 use crate::straight::rows_text;
-use sea_cell::{CellWord, ColKind, NewColumn, RowId, Text, type_word};
+use sea_cell::{CellWord, ColKind, NewColumn, RowId, Text, ids_json, texts_json, type_word};
 use sea_fields::Bytes;
 use sea_plain::{NamedCell, NewFilter, NewView, Op, OpRow, RowChange};
 use serde_json::{Map, Value, json, put};
@@ -45,9 +46,9 @@ pub fn op_json(alloc: Global, op: &Op) -> Result<Value, AllocError>
             column,
             options,
         } => add_options_json(alloc, table.as_str(), column.as_str(), options.as_slice()),
-        Op::AppendRows { table, rows } => append_rows_json(alloc, table.as_str(), rows.as_slice()),
-        Op::ModifyRows { table, rows } => modify_rows_json(alloc, table.as_str(), rows.as_slice()),
-        Op::DeleteRows { table, ids } => delete_rows_json(alloc, table.as_str(), ids.as_slice()),
+        Op::AppendRows { table, rows } => append_array_json(alloc, table.as_str(), rows.as_slice()),
+        Op::ModifyRows { table, rows } => modify_array_json(alloc, table.as_str(), rows.as_slice()),
+        Op::DeleteRows { table, ids } => delete_array_json(alloc, table.as_str(), ids.as_slice()),
         Op::AddLink {
             table,
             column,
@@ -69,7 +70,7 @@ pub fn op_json(alloc: Global, op: &Op) -> Result<Value, AllocError>
 fn insert_table_json(alloc: Global, table: &str, columns: &[NewColumn]) -> Result<Value, AllocError>
     ensures { IfOk result (λ json. view json ≡ insert_table_json_of table.now columns.now) }
 {
-    let columns = columns_json(alloc, columns)?;
+    let columns = array_json(alloc, columns)?;
     Ok(json!(in alloc; {"columns": columns, "op": "insert_table", "table": table})?)
 }
 
@@ -123,21 +124,21 @@ fn add_options_json(
     )
 }
 
-fn append_rows_json(alloc: Global, table: &str, rows: &[OpRow]) -> Result<Value, AllocError>
+fn append_array_json(alloc: Global, table: &str, rows: &[OpRow]) -> Result<Value, AllocError>
     ensures { IfOk result (λ json. view json ≡ append_rows_json_of table.now rows.now) }
 {
-    let rows = rows_json(alloc, rows)?;
+    let rows = array_json(alloc, rows)?;
     Ok(json!(in alloc; {"op": "append_rows", "rows": rows, "table": table})?)
 }
 
-fn modify_rows_json(alloc: Global, table: &str, rows: &[RowChange]) -> Result<Value, AllocError>
+fn modify_array_json(alloc: Global, table: &str, rows: &[RowChange]) -> Result<Value, AllocError>
     ensures { IfOk result (λ json. view json ≡ modify_rows_json_of table.now rows.now) }
 {
-    let rows = changes_json(alloc, rows)?;
+    let rows = array_json(alloc, rows)?;
     Ok(json!(in alloc; {"op": "modify_rows", "rows": rows, "table": table})?)
 }
 
-fn delete_rows_json(alloc: Global, table: &str, ids: &[RowId]) -> Result<Value, AllocError>
+fn delete_array_json(alloc: Global, table: &str, ids: &[RowId]) -> Result<Value, AllocError>
     ensures { IfOk result (λ json. view json ≡ delete_rows_json_of table.now ids.now) }
 {
     let ids = ids_json(alloc, ids)?;
@@ -198,20 +199,36 @@ fn delete_view_json(alloc: Global, table: &str, name: &str) -> Result<Value, All
     Ok(json!(in alloc; {"op": "delete_view", "table": table, "view": name})?)
 }
 
-fn columns_json(alloc: Global, columns: &[NewColumn]) -> Result<Value, AllocError>
-    ensures { IfOk result (λ json. view json ≡ columns_json_of columns.now) }
-{
-    Ok(Value::Array(column_values(alloc, columns)?))
+impl ToJson for NewColumn {
+    ghost shown = { column_json_of };
+
+    fn to_json(&self, alloc: Global) -> Result<Value, AllocError> {
+        column_json(alloc, self)
+    }
 }
 
-fn column_values(alloc: Global, columns: &[NewColumn]) -> Result<Vec<Value>, AllocError>
-    ensures { IfOk result (λ values. map view values.items ≡ map column_json_of columns.now) }
-{
-    let mut values = Vec::with_capacity(alloc, columns.len())?;
-    for column in columns {
-        values.push(column_json(alloc, column)?)?;
+impl ToJson for NewFilter {
+    ghost shown = { filter_json_of };
+
+    fn to_json(&self, alloc: Global) -> Result<Value, AllocError> {
+        filter_json(alloc, self)
     }
-    Ok(values)
+}
+
+impl ToJson for OpRow {
+    ghost shown = { row_json_of };
+
+    fn to_json(&self, alloc: Global) -> Result<Value, AllocError> {
+        row_json(alloc, self)
+    }
+}
+
+impl ToJson for RowChange {
+    ghost shown = { change_json_of };
+
+    fn to_json(&self, alloc: Global) -> Result<Value, AllocError> {
+        with_id_json(alloc, self.cells.as_slice(), &self.id.0)
+    }
 }
 
 // A column: its name and its type, and what its type has beside these.
@@ -264,7 +281,7 @@ fn view_json(alloc: Global, new_view: &NewView) -> Result<Value, AllocError>
     ensures { IfOk result (λ json. view json ≡ view_json_of new_view.now) }
 {
     let name = new_view.name.as_str();
-    let filters = filters_json(alloc, new_view.filters.as_slice())?;
+    let filters = array_json(alloc, new_view.filters.as_slice())?;
     let word = conjunction_word(new_view.all);
     Ok(json!(in alloc; {"conjunction": word, "filters": filters, "name": name})?)
 }
@@ -276,44 +293,12 @@ fn conjunction_word(all: bool) -> &'static str
     if all { "And" } else { "Or" }
 }
 
-fn filters_json(alloc: Global, filters: &[NewFilter]) -> Result<Value, AllocError>
-    ensures { IfOk result (λ json. view json ≡ filters_json_of filters.now) }
-{
-    Ok(Value::Array(filter_values(alloc, filters)?))
-}
-
-fn filter_values(alloc: Global, filters: &[NewFilter]) -> Result<Vec<Value>, AllocError>
-    ensures { IfOk result (λ values. map view values.items ≡ map filter_json_of filters.now) }
-{
-    let mut values = Vec::with_capacity(alloc, filters.len())?;
-    for filter in filters {
-        values.push(filter_json(alloc, filter)?)?;
-    }
-    Ok(values)
-}
-
 fn filter_json(alloc: Global, filter: &NewFilter) -> Result<Value, AllocError>
     ensures { IfOk result (λ json. view json ≡ filter_json_of filter.now) }
 {
     let (column, predicate) = (filter.column.as_str(), filter.predicate.as_str());
     let term = word_json(alloc, &filter.term)?;
     Ok(json!(in alloc; {"column": column, "predicate": predicate, "term": term})?)
-}
-
-fn rows_json(alloc: Global, rows: &[OpRow]) -> Result<Value, AllocError>
-    ensures { IfOk result (λ json. view json ≡ rows_json_of rows.now) }
-{
-    Ok(Value::Array(row_values(alloc, rows)?))
-}
-
-fn row_values(alloc: Global, rows: &[OpRow]) -> Result<Vec<Value>, AllocError>
-    ensures { IfOk result (λ values. map view values.items ≡ map row_json_of rows.now) }
-{
-    let mut values = Vec::with_capacity(alloc, rows.len())?;
-    for row in rows {
-        values.push(row_json(alloc, row)?)?;
-    }
-    Ok(values)
 }
 
 // A row: its cells, and its id at its place among them.
@@ -324,22 +309,6 @@ fn row_json(alloc: Global, row: &OpRow) -> Result<Value, AllocError>
         Some(id) => with_id_json(alloc, row.cells.as_slice(), id),
         None => Ok(Value::Object(members_of_cells(alloc, row.cells.as_slice())?)),
     }
-}
-
-fn changes_json(alloc: Global, changes: &[RowChange]) -> Result<Value, AllocError>
-    ensures { IfOk result (λ json. view json ≡ changes_json_of changes.now) }
-{
-    Ok(Value::Array(change_values(alloc, changes)?))
-}
-
-fn change_values(alloc: Global, changes: &[RowChange]) -> Result<Vec<Value>, AllocError>
-    ensures { IfOk result (λ values. map view values.items ≡ map change_json_of changes.now) }
-{
-    let mut values = Vec::with_capacity(alloc, changes.len())?;
-    for change in changes {
-        values.push(with_id_json(alloc, change.cells.as_slice(), &change.id.0)?)?;
-    }
-    Ok(values)
 }
 
 // Cells, and an id at its place among them.
@@ -387,36 +356,4 @@ fn whole_json(alloc: Global, whole: i128) -> Value
         return Value::from(whole);
     }
     Value::Object(Map::new(alloc))
-}
-
-fn texts_json(alloc: Global, texts: &[Text]) -> Result<Value, AllocError>
-    ensures { IfOk result (λ json. view json ≡ texts_json_of texts.now) }
-{
-    Ok(Value::Array(text_values(alloc, texts)?))
-}
-
-fn text_values(alloc: Global, texts: &[Text]) -> Result<Vec<Value>, AllocError>
-    ensures { IfOk result (λ values. map view values.items ≡ map string texts.now) }
-{
-    let mut values = Vec::with_capacity(alloc, texts.len())?;
-    for text in texts {
-        values.push(Value::try_from_str(alloc, text.as_str())?)?;
-    }
-    Ok(values)
-}
-
-fn ids_json(alloc: Global, ids: &[RowId]) -> Result<Value, AllocError>
-    ensures { IfOk result (λ json. view json ≡ ids_json_of ids.now) }
-{
-    Ok(Value::Array(id_values(alloc, ids)?))
-}
-
-fn id_values(alloc: Global, ids: &[RowId]) -> Result<Vec<Value>, AllocError>
-    ensures { IfOk result (λ values. map view values.items ≡ map (λ id. string id.0) ids.now) }
-{
-    let mut values = Vec::with_capacity(alloc, ids.len())?;
-    for id in ids {
-        values.push(Value::try_from_str(alloc, id.0.as_str())?)?;
-    }
-    Ok(values)
 }

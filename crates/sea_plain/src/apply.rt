@@ -6,9 +6,10 @@ ghost use Rattle.sea_plain.specs.Refusal.{new_rows as new_rows_of, numbers_spent
 ghost use Rattle.sea_plain.specs.Seen.{seen_of};
 
 use crate::base::Plain;
-use crate::checking::{changes_fit, new_rows};
+use crate::checking::new_rows;
 use crate::ends::links_gone;
 use crate::joined::pairs_after;
+use crate::limits::changes_fit;
 use crate::made::stamped_rows;
 use crate::makes::{columns_made, links_made, rows_made, tables_made};
 use crate::operation::{Entries, Entry, Op};

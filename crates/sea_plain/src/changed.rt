@@ -3,12 +3,13 @@ ghost use Rattle.std.specs.Prelude.{◌≡◌, not, map, filter, IfOk};
 ghost use Rattle.std.specs.BTreeSet.{contains_text};
 ghost use Rattle.std.specs.Option.{option_copied};
 ghost use Rattle.sea_schema.specs.Tables.{key_named};
+ghost use Rattle.sea_cell.specs.Named.{listed};
 ghost use Rattle.sea_plain.specs.RowsOf.{changed_row as changed_row_of, change_of as change_of_id, after_changes as after_changes_of, without_cell as without_cell_of, has_other_id as has_other_id_of};
 
 use crate::made::put_members;
 use crate::names::set_of;
 use crate::operation::RowChange;
-use sea_cell::{CellValue, ColKey, Column, Duplicate, Moment, Row, RowId, Rows, Shared};
+use sea_cell::{CellValue, ColKey, Columns, Duplicate, Moment, Row, RowId, Rows, Shared};
 use sea_schema::Table;
 use sqlite_items::Items;
 use std::alloc::{AllocError, Global};
@@ -17,12 +18,12 @@ use std::collections::BTreeSet;
 /// A row with the given cells replaced, last changed at a moment.
 pub fn changed_row(
     alloc: Global,
-    columns: &[Column],
+    columns: Option<&Columns>,
     moment: Moment,
     change: &RowChange,
     row: &Row,
 ) -> Result<Row, AllocError>
-    ensures { IfOk result (λ new. new ≡ changed_row_of columns.now moment change.now row.now) }
+    ensures { IfOk result (λ new. new ≡ changed_row_of (listed columns.entry) moment change.now row.now) }
 {
     let mut new = row.duplicate(alloc)?;
     put_members(alloc, columns, &mut new.cells, change.cells.as_slice())?;
@@ -33,12 +34,12 @@ pub fn changed_row(
 /// The rows after the changes of an operation. Those that it doesn't name are shared.
 pub fn rows_after_changes(
     alloc: Global,
-    columns: &[Column],
+    columns: Option<&Columns>,
     moment: Moment,
     changes: &[RowChange],
     rows: &[Shared<Row>],
 ) -> Result<Rows, AllocError>
-    ensures { IfOk result (λ new. new ≡ map (after_changes_of columns.now moment changes.now) rows.now) }
+    ensures { IfOk result (λ new. new ≡ map (after_changes_of (listed columns.entry) moment changes.now) rows.now) }
 {
     let mut new = Items::new(alloc);
     for row in rows {
@@ -50,12 +51,12 @@ pub fn rows_after_changes(
 // A row after the changes of an operation.
 fn after_changes(
     alloc: Global,
-    columns: &[Column],
+    columns: Option<&Columns>,
     moment: Moment,
     changes: &[RowChange],
     row: &Shared<Row>,
 ) -> Result<Shared<Row>, AllocError>
-    ensures { IfOk result (λ new. new ≡ after_changes_of columns.now moment changes.now row.now) }
+    ensures { IfOk result (λ new. new ≡ after_changes_of (listed columns.entry) moment changes.now row.now) }
 {
     match change_of(changes, row.get().id.0.as_str()) {
         Some(change) => {

@@ -10,12 +10,11 @@ ghost use Rattle.sea_plain.specs.Seen.{has_id as has_id_in};
 
 use crate::linking::are_linked_rows;
 use crate::made::ids_of;
-use crate::makes::Named;
 use crate::names::first_repeat;
 use crate::operation::{Op, RowChange};
 use crate::refusal::OpRefusal;
 use crate::seen::SeenBase;
-use sea_cell::{Duplicate, Ids, RowId, Text};
+use sea_cell::{Duplicate, Ids, Named, RowId, Text};
 use sqlite_items::Items;
 use std::alloc::{AllocError, Global};
 use std::collections::BTreeSet;

@@ -5,13 +5,14 @@ ghost use Rattle.std.specs.List.{filter_map, list_any};
 ghost use Rattle.sea_cell.specs.Once.{is_among};
 ghost use Rattle.sea_links.specs.Pairs.{is_of as is_of_row, side as side_of};
 ghost use Rattle.sea_schema.specs.Tables.{is_link_among as is_link_among_of};
+ghost use Rattle.sea_cell.specs.Named.{listed};
 ghost use Rattle.sea_plain.specs.Joined.{texts_of_ids, joined as joined_of, with_joined as with_joined_of, joins_none as joins_none_of, without_joined as without_joined_of, has_row_at as has_row_at_of, has_no_row as has_no_row_of, ends_of as ends_of_columns, is_of_others as is_of_others_of, pairs_after as pairs_after_of};
 
 use crate::base::PlainPairs;
 use crate::lookup::end_named;
 use crate::names::set_of;
 use crate::operation::Op;
-use sea_cell::{Column, Duplicate, LinkEnd, RowId, Shared};
+use sea_cell::{Column, Columns, Duplicate, LinkEnd, RowId, Shared, items_in};
 use sea_links::{LinkPair, is_of, side};
 use sea_schema::is_link_among;
 use sqlite_items::Items;
@@ -21,12 +22,12 @@ use std::collections::BTreeSet;
 /// The pairs after an operation on a table with these columns, with which these links go.
 pub fn pairs_after(
     alloc: Global,
-    columns: &[Column],
+    columns: Option<&Columns>,
     links: &[u32],
     op: &Op,
     pairs: &PlainPairs,
 ) -> Result<PlainPairs, AllocError>
-    ensures { IfOk result (λ new. new ≡ pairs_after_of columns.now links.now op.now pairs.now) }
+    ensures { IfOk result (λ new. new ≡ pairs_after_of (listed columns.entry) links.now op.now pairs.now) }
 {
     match op {
         Op::AddLink {
@@ -48,7 +49,7 @@ pub fn pairs_after(
             None => pairs.duplicate(alloc),
         },
         Op::DeleteRows { table: _, ids } => {
-            let ends = ends_of(alloc, columns)?;
+            let ends = ends_of(alloc, items_in(columns))?;
             without_rows(alloc, pairs.as_slice(), &ends, ids.as_slice())
         }
         Op::DeleteColumn {

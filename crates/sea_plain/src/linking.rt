@@ -5,14 +5,15 @@ ghost use Rattle.sea_plain.specs.Checks.{Checks};
 ghost use Rattle.sea_plain.specs.Joined.{end_named as end_named_in, texts_of_ids};
 ghost use Rattle.sea_plain.specs.Names.{first_repeat};
 ghost use Rattle.sea_plain.specs.Refusal.{first_at, missing_in_table, missing_others, missing_linked, no_end, not_link as not_link_in, is_linked, is_so_linked, linked_already as linked_already_in, link_exists as link_exists_in, not_linked as not_linked_in, no_link as no_link_in};
+ghost use Rattle.sea_plain.specs.Seen.{columns_in as columns_in_seen};
 
-use crate::checking::columns_in;
+use crate::columns::columns_in;
 use crate::ids::is_row;
 use crate::lookup::end_named;
 use crate::operation::Op;
 use crate::refusal::OpRefusal;
 use crate::seen::SeenBase;
-use sea_cell::{Column, Duplicate, LinkEnd, RowId, TableNo, Text, insert_text};
+use sea_cell::{Duplicate, LinkEnd, RowId, TableNo, Text, insert_text};
 use std::alloc::{AllocError, Global};
 use std::collections::BTreeSet;
 
@@ -79,21 +80,22 @@ pub fn not_link<S: SeenBase>(alloc: Global, op: &Op, seen: &S) -> Result<(), OpR
             column,
             row: _,
             others: _,
-        } => is_end(alloc, columns_in(seen, table.as_str()), column),
+        } => is_end(alloc, table, column, seen),
         Op::RemoveLink {
             table,
             column,
             row: _,
             others: _,
-        } => is_end(alloc, columns_in(seen, table.as_str()), column),
+        } => is_end(alloc, table, column, seen),
         _ => Ok(()),
     }
 }
 
 // The column of the name is an end of a link.
-fn is_end(alloc: Global, columns: &[Column], name: &Text) -> Result<(), OpRefusal>
-    ensures { Checks result (no_end columns.now name.now) }
+fn is_end<S: SeenBase>(alloc: Global, table: &Text, name: &Text, seen: &S) -> Result<(), OpRefusal>
+    ensures { Checks result (no_end (columns_in_seen (S.seen seen.now) table.now) name.now) }
 {
+    let columns = columns_in(seen, table.as_str());
     if end_named(columns, name.as_str()).is_some() {
         return Ok(());
     }

@@ -1,15 +1,16 @@
 // The rows that an operation makes.
 ghost use Rattle.std.specs.Prelude.{◌≡◌, ◌+◌, ◌^◌, ◌<◌, [], ◌∷◌, ◌++◌, fold, length, map, option_map, IfOk, OnOk};
+ghost use Rattle.sea_cell.specs.Named.{listed};
 ghost use Rattle.sea_plain.specs.Checks.{Checks};
 ghost use Rattle.sea_plain.specs.Refusal.{first_at, refused_cell, refused_in, some_moment};
 ghost use Rattle.sea_plain.specs.RowsOf.{id_of as id_for, ids_of as ids_for, with_member as with_member_of, cells_of as cells_for, row_of as row_for, rows_of as rows_for, stamped as stamped_of};
 
+use crate::lookup::column_named;
 use crate::operation::{NamedCell, OpRow};
 use crate::refusal::OpRefusal;
 use sea_cell::{
-    CellFault, Cells, Column, Duplicate, Ids, Moment, Row, RowId, Rows, Shared, Text, cell_of_json,
+    CellFault, Cells, Columns, Duplicate, Ids, Moment, Row, RowId, Rows, Shared, Text, cell_of_json,
 };
-use sea_schema::column_named;
 use sqlite_items::Items;
 use std::alloc::{AllocError, Global};
 
@@ -42,13 +43,13 @@ fn id_of(alloc: Global, number: u64, row: &OpRow) -> Result<Text, AllocError>
 #[tactic(auto, unfolding(crate::specs::Refusal::refused_in))]
 pub fn rows_of(
     alloc: Global,
-    columns: &[Column],
+    columns: Option<&Columns>,
     number: u64,
     rows: &[OpRow],
 ) -> Result<Vec<Row>, OpRefusal>
     requires { number + length rows.now < 2 ^ 64 }
-    ensures refused { Checks result (refused_in columns.now (map (λ row. row.cells) rows.now)) }
-    ensures made { IfOk result (λ made. made.items ≡ rows_for columns.now some_moment number rows.now) }
+    ensures refused { Checks result (refused_in (listed columns.entry) (map (λ row. row.cells) rows.now)) }
+    ensures made { IfOk result (λ made. made.items ≡ rows_for (listed columns.entry) some_moment number rows.now) }
 {
     let mut made = Vec::with_capacity(alloc, rows.len())?;
     let mut next = number;
@@ -68,9 +69,14 @@ fn push(rows: &mut Vec<Row>, row: Row) -> Result<(), AllocError>
 }
 
 // A new row.
-fn row_of(alloc: Global, columns: &[Column], number: u64, row: &OpRow) -> Result<Row, OpRefusal>
-    ensures refused { Checks result (first_at (refused_cell columns.now) row.now.cells) }
-    ensures made { IfOk result (λ made. made ≡ row_for columns.now some_moment number row.now) }
+fn row_of(
+    alloc: Global,
+    columns: Option<&Columns>,
+    number: u64,
+    row: &OpRow,
+) -> Result<Row, OpRefusal>
+    ensures refused { Checks result (first_at (refused_cell (listed columns.entry)) row.now.cells) }
+    ensures made { IfOk result (λ made. made ≡ row_for (listed columns.entry) some_moment number row.now) }
 {
     let cells = cells_of(alloc, columns, row.cells.as_slice())?;
     Ok(Row {
@@ -83,9 +89,13 @@ fn row_of(alloc: Global, columns: &[Column], number: u64, row: &OpRow) -> Result
 }
 
 // The cells of a new row.
-fn cells_of(alloc: Global, columns: &[Column], members: &[NamedCell]) -> Result<Cells, OpRefusal>
-    ensures refused { Checks result (first_at (refused_cell columns.now) members.now) }
-    ensures made { IfOk result (λ cells. cells ≡ cells_for columns.now members.now) }
+fn cells_of(
+    alloc: Global,
+    columns: Option<&Columns>,
+    members: &[NamedCell],
+) -> Result<Cells, OpRefusal>
+    ensures refused { Checks result (first_at (refused_cell (listed columns.entry)) members.now) }
+    ensures made { IfOk result (λ cells. cells ≡ cells_for (listed columns.entry) members.now) }
 {
     let mut cells = Cells::new(alloc);
     for member in members {
@@ -97,12 +107,12 @@ fn cells_of(alloc: Global, columns: &[Column], members: &[NamedCell]) -> Result<
 // Puts what a member makes under its column, which has to take it.
 fn take_member(
     alloc: Global,
-    columns: &[Column],
+    columns: Option<&Columns>,
     cells: &mut Cells,
     member: &NamedCell,
 ) -> Result<(), OpRefusal>
-    ensures refused { Checks result (refused_cell columns.now member.now) }
-    ensures taken { OnOk result (cells.new ≡ with_member_of columns.now cells.old member.now) }
+    ensures refused { Checks result (refused_cell (listed columns.entry) member.now) }
+    ensures taken { OnOk result (cells.new ≡ with_member_of (listed columns.entry) cells.old member.now) }
 {
     match put_member(alloc, columns, cells, member)? {
         None => Ok(()),
@@ -137,11 +147,11 @@ fn stamped(moment: Moment, row: Row) -> Row
 /// Puts what members make under their columns.
 pub fn put_members(
     alloc: Global,
-    columns: &[Column],
+    columns: Option<&Columns>,
     cells: &mut Cells,
     members: &[NamedCell],
 ) -> Result<(), AllocError>
-    ensures { OnOk result (cells.new ≡ fold (with_member_of columns.now) cells.old members.now) }
+    ensures { OnOk result (cells.new ≡ fold (with_member_of (listed columns.entry)) cells.old members.now) }
 {
     for member in members {
         put_member(alloc, columns, cells, member)?;
@@ -152,12 +162,12 @@ pub fn put_members(
 // Puts what a member makes under its column. Where the column doesn't take it, the cells stay, and this is why.
 fn put_member(
     alloc: Global,
-    columns: &[Column],
+    columns: Option<&Columns>,
     cells: &mut Cells,
     member: &NamedCell,
 ) -> Result<Option<CellFault>, AllocError>
-    ensures put { OnOk result (cells.new ≡ with_member_of columns.now cells.old member.now) }
-    ensures fault { IfOk result (λ fault. option_map (OpRefusal.BadCell member.now.name) fault ≡ refused_cell columns.now member.now) }
+    ensures put { OnOk result (cells.new ≡ with_member_of (listed columns.entry) cells.old member.now) }
+    ensures fault { IfOk result (λ fault. option_map (OpRefusal.BadCell member.now.name) fault ≡ refused_cell (listed columns.entry) member.now) }
 {
     let Some(column) = column_named(columns, member.name.as_str()) else {
         return Ok(None);

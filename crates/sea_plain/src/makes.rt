@@ -1,11 +1,11 @@
 // What an operation names and what it makes, by its form.
-ghost use Rattle.std.specs.Prelude.{◌≡◌, ℕ, List};
+ghost use Rattle.std.specs.Prelude.{◌≡◌, List};
 ghost use Rattle.sea_schema.specs.Layout.{keys_of_new as keys_of_new_end, links_of_new as links_of_new_end};
 ghost use Rattle.sea_plain.specs.declared.operation.NamedCell.{NamedCell};
 ghost use Rattle.sea_plain.specs.Makes.{table_name as table_name_of, columns_made as columns_made_of, links_made as links_made_of, tables_made as tables_made_of, rows_made as rows_made_of};
 
 use crate::operation::{NamedCell, Op, OpRow, RowChange};
-use sea_cell::{NewColumn, NewEnd, RowId, Text};
+use sea_cell::{Named, NewEnd, Text};
 
 /// The table that an operation names.
 pub fn table_name(op: &Op) -> &Text
@@ -138,36 +138,10 @@ impl WritesCells for RowChange {
     }
 }
 
-/// A thing with a name or an id that its table knows it by.
-pub trait Named {
-    /// The name or id.
-    ghost name: { Self → List ℕ };
-
-    /// The name or id.
-    fn name(&self) -> &str
-        ensures { result.now ≡ name self.now };
-}
-
-impl Named for RowId {
-    ghost name = { λ id. id.0 };
-
-    fn name(&self) -> &str {
-        self.0.as_str()
-    }
-}
-
 impl Named for RowChange {
     ghost name = { λ change. change.id.0 };
 
     fn name(&self) -> &str {
         self.id.0.as_str()
-    }
-}
-
-impl Named for NewColumn {
-    ghost name = { λ column. column.name };
-
-    fn name(&self) -> &str {
-        self.name.as_str()
     }
 }

@@ -6,8 +6,7 @@ ghost use Rattle.std.specs.BTreeSet.{contains_text};
 ghost use Rattle.sea_cell.specs.Once.{is_among};
 ghost use Rattle.sea_plain.specs.Names.{is_name as is_name_of, is_name_byte as is_name_byte_of, is_id as is_id_of, is_id_byte as is_id_byte_of, is_option as is_option_of, first_repeat as first_repeat_of};
 
-use crate::makes::Named;
-use sea_cell::{Text, insert_text};
+use sea_cell::{Named, Text, insert_text};
 use std::alloc::{AllocError, Global};
 use std::collections::BTreeSet;
 

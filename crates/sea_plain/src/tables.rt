@@ -1,6 +1,7 @@
 // The tables of a base after an operation.
 ghost use Rattle.std.specs.Prelude.{◌≡◌, ◌≤◌, ◌⊎◌, ◌+◌, ◌++◌, None, filter, length, IfOk, []};
 ghost use Rattle.sea_schema.specs.Tables.{table_of, with_view as with_view_of};
+ghost use Rattle.sea_cell.specs.Named.{listed};
 ghost use Rattle.sea_plain.specs.Apply.{table_after as table_after_of, columns_named as columns_named_of, rows_after as rows_after_of, plain_after as plain_after_of, named_after as named_after_of, has_other_name as has_other_name_of, with_column_in, links_gone as links_gone_of, tables_after as tables_after_of};
 ghost use Rattle.sea_plain.specs.Refusal.{new_rows as new_rows_of, numbers_spent};
 ghost use Rattle.sea_plain.specs.Schemas.{bare_tables};
@@ -9,19 +10,19 @@ ghost use Rattle.sea_plain.specs.Viewed.{view_of as view_for};
 
 use crate::base::{Plain, PlainTable, PlainTables};
 use crate::changed::{rows_after_changes, rows_without, rows_without_column};
-use crate::checking::columns_in;
+use crate::columns::columns_in;
 use crate::ends::{with_link, without_ends};
 use crate::makes::table_name;
 use crate::operation::{NewView, Op};
 use crate::viewed::view_of;
-use sea_cell::{ColKey, Column, Duplicate, Moment, NewColumn, Rows, Shared, TableNo, Text};
+use sea_cell::{ColKey, Columns, Duplicate, Moment, NewColumn, Rows, Shared, TableNo, Text};
 use sea_schema::Table;
 use sqlite_items::Items;
 use std::alloc::{AllocError, Global};
 
-/// The columns of the table that the operation names.
-pub fn columns_named<'a>(base: &'a Plain, op: &Op) -> &'a [Column]
-    ensures { result.now ≡ columns_named_of base.now op.now }
+/// The columns of the table that the operation names, where there is one.
+pub fn columns_named<'a>(base: &'a Plain, op: &Op) -> Option<&'a Columns>
+    ensures { listed result ≡ columns_named_of base.now op.now }
 {
     columns_in(base, table_name(op).as_str())
 }
@@ -214,11 +215,11 @@ fn table_after(
 // A table with a view, whose filters are about these columns.
 fn with_view(
     alloc: Global,
-    columns: &[Column],
+    columns: Option<&Columns>,
     table: &Table,
     view: &NewView,
 ) -> Result<Shared<Table>, AllocError>
-    ensures { IfOk result (λ new. new ≡ with_view_of (view_for columns.now view.now) table.now) }
+    ensures { IfOk result (λ new. new ≡ with_view_of (view_for (listed columns.entry) view.now) table.now) }
 {
     let made = view_of(alloc, columns, view)?;
     share(alloc, table.with_view(alloc, &made)?)
@@ -241,7 +242,7 @@ fn rows_after(
 ) -> Result<Shared<Rows>, AllocError>
     ensures { IfOk result (λ rows. rows ≡ rows_after_of moment new.now op.now plain.now.table plain.now.rows) }
 {
-    let columns = plain.table.get().columns.as_slice();
+    let columns = Some(&plain.table.get().columns);
     let rows = plain.rows.get();
     match op {
         Op::DeleteColumn { table: _, column } => {

@@ -2,23 +2,24 @@
 ghost use Rattle.std.specs.Prelude.{◌≡◌, ◌++◌, List, IfOk, OnOk};
 ghost use Rattle.std.specs.List.{cons_option, filter_map};
 ghost use Rattle.sea_cell.specs.declared.selection.Filter.{Filter};
+ghost use Rattle.sea_cell.specs.Named.{listed};
 ghost use Rattle.sea_plain.specs.Viewed.{filter_of as filter_for, filter_by as filter_by_test, view_of as view_for};
 
+use crate::lookup::column_named;
 use crate::operation::{NewFilter, NewView};
 use sea_cell::{
-    CellWord, Column, Duplicate, Filter, Filters, Test, View, term_of_word, test_of_word,
+    CellWord, Column, Columns, Duplicate, Filter, Filters, Test, View, term_of_word, test_of_word,
 };
-use sea_schema::column_named;
 use sqlite_items::Items;
 use std::alloc::{AllocError, Global};
 
 /// A filter of a table with these columns, where its predicate is one for its column and its term fits.
 pub fn filter_of(
     alloc: Global,
-    columns: &[Column],
+    columns: Option<&Columns>,
     new: &NewFilter,
 ) -> Result<Option<Filter>, AllocError>
-    ensures { IfOk result (λ filter. filter ≡ filter_for columns.now new.now) }
+    ensures { IfOk result (λ filter. filter ≡ filter_for (listed columns.entry) new.now) }
 {
     let Some(column) = column_named(columns, new.column.as_str()) else {
         return Ok(None);
@@ -49,8 +50,8 @@ fn filter_by(
 }
 
 /// A view of a table with these columns, with those of its filters that fit.
-pub fn view_of(alloc: Global, columns: &[Column], new: &NewView) -> Result<View, AllocError>
-    ensures { IfOk result (λ view. view ≡ view_for columns.now new.now) }
+pub fn view_of(alloc: Global, columns: Option<&Columns>, new: &NewView) -> Result<View, AllocError>
+    ensures { IfOk result (λ view. view ≡ view_for (listed columns.entry) new.now) }
 {
     Ok(View {
         name: new.name.duplicate(alloc)?,
@@ -61,10 +62,10 @@ pub fn view_of(alloc: Global, columns: &[Column], new: &NewView) -> Result<View,
 
 fn filters_of(
     alloc: Global,
-    columns: &[Column],
+    columns: Option<&Columns>,
     filters: &[NewFilter],
 ) -> Result<Filters, AllocError>
-    ensures { IfOk result (λ made. made ≡ filter_map (filter_for columns.now) filters.now) }
+    ensures { IfOk result (λ made. made ≡ filter_map (filter_for (listed columns.entry)) filters.now) }
 {
     let mut made = Items::new(alloc);
     for filter in filters {
@@ -76,11 +77,11 @@ fn filters_of(
 // Adds a filter, where it fits.
 fn add_filter(
     alloc: Global,
-    columns: &[Column],
+    columns: Option<&Columns>,
     made: &mut Filters,
     filter: &NewFilter,
 ) -> Result<(), AllocError>
-    ensures { OnOk result ((rest : List Filter) → made.new ++ rest ≡ made.old ++ cons_option (filter_for columns.now filter.now) rest) }
+    ensures { OnOk result ((rest : List Filter) → made.new ++ rest ≡ made.old ++ cons_option (filter_for (listed columns.entry) filter.now) rest) }
 {
     match filter_of(alloc, columns, filter)? {
         Some(filter) => {

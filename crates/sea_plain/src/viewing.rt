@@ -1,28 +1,34 @@
 // The refusals of operations on views, but for the names of columns.
-ghost use Rattle.std.specs.Prelude.{◌≡◌, None, Some, is_some, if◌then◌else◌, IfOk};
+ghost use Rattle.std.specs.Prelude.{◌≡◌, None, Some, is_some, if◌then◌else◌, length, IfOk};
+ghost use Rattle.sea_cell.specs.Named.{listed};
 ghost use Rattle.sea_plain.specs.Checks.{Checks};
 ghost use Rattle.sea_plain.specs.Refusal.{missing_view as missing_view_in, no_view as no_view_in, taken_view, bad_filter_from, bad_filter as bad_filter_in};
 ghost use Rattle.sea_plain.specs.Seen.{views_in as views_in_seen};
 ghost use Rattle.sea_plain.specs.Viewed.{filter_of as filter_for};
-ghost use Rattle.sea_schema.specs.Tables.{view_named as view_named_of};
-ghost use Rattle.std.specs.Option.{option_copied};
 
-use crate::checking::columns_in;
+use crate::columns::columns_in;
 use crate::operation::{NewFilter, Op};
 use crate::refusal::OpRefusal;
 use crate::seen::SeenBase;
 use crate::viewed::filter_of;
-use sea_cell::{Column, Duplicate, Text, View};
+use sea_cell::{Columns, Duplicate, Text, Views, items_in, named_in};
 use std::alloc::Global;
 
-/// The views of the table of a name, or none.
-pub fn views_in<'a, S: SeenBase>(seen: &'a S, name: &str) -> &'a [View]
-    ensures { result.now ≡ views_in_seen (S.seen seen.now) name.now }
+/// The views of the table of a name, where there is one.
+pub fn views_in<'a, S: SeenBase>(seen: &'a S, name: &str) -> Option<&'a Views>
+    ensures { listed result ≡ views_in_seen (S.seen seen.now) name.now }
 {
     match seen.table(name) {
-        Some(table) => table.views.as_slice(),
-        None => &[],
+        Some(table) => Some(&table.views),
+        None => None,
     }
+}
+
+/// How many views the table of a name has.
+pub fn view_count<S: SeenBase>(seen: &S, name: &str) -> usize
+    ensures { result ≡ length (views_in_seen (S.seen seen.now) name.now) }
+{
+    items_in(views_in(seen, name)).len()
 }
 
 /// The view that the operation names is there.
@@ -38,10 +44,10 @@ pub fn no_view<S: SeenBase>(alloc: Global, op: &Op, seen: &S) -> Result<(), OpRe
     }
 }
 
-fn is_view(alloc: Global, views: &[View], name: &Text) -> Result<(), OpRefusal>
-    ensures { Checks result (missing_view_in views.now name.now) }
+fn is_view(alloc: Global, views: Option<&Views>, name: &Text) -> Result<(), OpRefusal>
+    ensures { Checks result (missing_view_in (listed views.entry) name.now) }
 {
-    if view_named(views, name.as_str()).is_some() {
+    if named_in(views, name.as_str()).is_some() {
         return Ok(());
     }
     Err(OpRefusal::NoView {
@@ -49,18 +55,11 @@ fn is_view(alloc: Global, views: &[View], name: &Text) -> Result<(), OpRefusal>
     })
 }
 
-// The view of a name.
-fn view_named<'a>(views: &'a [View], name: &str) -> Option<&'a View>
-    ensures { option_copied result ≡ view_named_of views.now name.now }
-{
-    views.iter().find(|view| view.name.as_str() == name)
-}
-
 /// The name isn't that of a view.
-pub fn view_taken(alloc: Global, views: &[View], name: &Text) -> Result<(), OpRefusal>
-    ensures { Checks result (taken_view views.now name.now) }
+pub fn view_taken(alloc: Global, views: Option<&Views>, name: &Text) -> Result<(), OpRefusal>
+    ensures { Checks result (taken_view (listed views.entry) name.now) }
 {
-    if view_named(views, name.as_str()).is_none() {
+    if named_in(views, name.as_str()).is_none() {
         return Ok(());
     }
     Err(OpRefusal::NameTaken {
@@ -87,8 +86,8 @@ pub fn bad_filter<S: SeenBase>(alloc: Global, op: &Op, seen: &S) -> Result<(), O
     }
 }
 
-fn fit(alloc: Global, columns: &[Column], filters: &[NewFilter]) -> Result<(), OpRefusal>
-    ensures { Checks result (bad_filter_from 0 columns.now filters.now) }
+fn fit(alloc: Global, columns: Option<&Columns>, filters: &[NewFilter]) -> Result<(), OpRefusal>
+    ensures { Checks result (bad_filter_from 0 (listed columns.entry) filters.now) }
 {
     let mut index = 0;
     for filter in filters {

@@ -1,4 +1,3 @@
 pub mod BackLaws
 pub mod EndsLaws
 pub mod LinksLaws
-pub mod PlacesLaws

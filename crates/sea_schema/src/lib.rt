@@ -9,7 +9,6 @@
 
 mod laws;
 mod links;
-mod places;
 mod schema;
 mod table;
 #[cfg(test)]
@@ -18,4 +17,4 @@ mod tests;
 pub use laws::links_have_two_ends;
 pub use links::is_link_among;
 pub use schema::Schema;
-pub use table::{Table, Tables, column_named, more_options};
+pub use table::{Table, Tables, more_options};

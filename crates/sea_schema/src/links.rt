@@ -4,8 +4,8 @@ ghost use Rattle.std.specs.Bool.{OnFalse};
 ghost use Rattle.std.specs.List.{list_any};
 ghost use Rattle.sea_schema.specs.Tables.{link_column as link_column_for, with_link_column, link_of as link_of_column, links_of as links_of_columns, links_named as links_of_named, is_link_among as is_link_among_of, is_end_of as is_end_of_links, is_of_no_link as is_of_none_of, without_links};
 
-use crate::table::{Table, Tables};
-use sea_cell::{ColKey, ColKind, Column, Columns, Duplicate, LinkEnd, Shared, Text, Texts};
+use crate::table::Table;
+use sea_cell::{ColKey, ColKind, Column, Duplicate, LinkEnd, Shared, Text, Texts};
 use sqlite_items::Items;
 use std::alloc::{AllocError, Global};
 
@@ -20,21 +20,17 @@ impl Table {
     ) -> Result<Table, AllocError>
         ensures { IfOk result (λ table. table ≡ with_link_column key.0 name.now end self.now) }
     {
-        let mut table = self.duplicate(alloc)?;
-        table.columns.push(link_column(alloc, key, name, end)?)?;
-        Ok(table)
+        let mut columns = self.columns.copies(alloc)?;
+        columns.push(link_column(alloc, key, name, end)?)?;
+        self.with_columns(alloc, columns)
     }
 
     /// The table without its ends of these links. The other columns and the views stay.
     pub fn without_links(&self, alloc: Global, links: &[u32]) -> Result<Table, AllocError>
         ensures { IfOk result (λ table. table ≡ without_links links.now self.now) }
     {
-        Ok(Table {
-            no: self.no,
-            name: self.name.duplicate(alloc)?,
-            columns: columns_without_ends(alloc, self.columns.as_slice(), links)?,
-            views: self.views.duplicate(alloc)?,
-        })
+        let columns = columns_without_ends(alloc, self.columns.as_slice(), links)?;
+        self.with_columns(alloc, columns)
     }
 
     /// Whether a column of the table is an end of one of these links. Where none is, the table without them is the same.
@@ -141,7 +137,7 @@ fn columns_without_ends(
     alloc: Global,
     columns: &[Column],
     links: &[u32],
-) -> Result<Columns, AllocError>
+) -> Result<Items<Column>, AllocError>
     ensures { IfOk result (λ kept. kept ≡ filter (is_of_none_of links.now) columns.now) }
 {
     let mut kept = Items::new(alloc);
@@ -156,9 +152,9 @@ fn columns_without_ends(
 // Tables without their ends of these links. Without links they are the tables that are given.
 pub(crate) fn without_ends(
     alloc: Global,
-    tables: Tables,
+    tables: Items<Shared<Table>>,
     links: &[u32],
-) -> Result<Tables, AllocError>
+) -> Result<Items<Shared<Table>>, AllocError>
     ensures { IfOk result (λ new. new ≡ map (without_links links.now) tables) }
 {
     if links.is_empty() {
@@ -172,7 +168,7 @@ fn tables_without(
     alloc: Global,
     tables: &[Shared<Table>],
     links: &[u32],
-) -> Result<Tables, AllocError>
+) -> Result<Items<Shared<Table>>, AllocError>
     ensures { IfOk result (λ new. new ≡ map (without_links links.now) tables.now) }
 {
     let mut new = Items::new(alloc);

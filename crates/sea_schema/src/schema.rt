@@ -5,15 +5,12 @@ ghost use Rattle.std.specs.Str.{bytes_eq};
 ghost use Rattle.sea_schema.specs.Tables.{table_named, with_name, with_link_column, with_column_name, with_options, with_view, without_view};
 ghost use Rattle.sea_schema.specs.Layout.{empty_layout, if_table, in_table, with_table, with_plain_column, with_link, with_new_column, keys_of_new, links_of_new, number_named, links_of_column, links_of_table, without_column_of, without_table_of, end_towards, is_other_table as is_other_table_of};
 ghost use Rattle.sea_schema.specs.Changes.{change_of};
-ghost use Rattle.sea_schema.specs.Places.{KeepsNames, KeepsPlaces};
 
 use crate::links::without_ends;
-use crate::places::{Places, found, places_of};
 use crate::table::{Table, Tables};
 use sea_cell::{ColKey, Duplicate, LinkEnd, NewColumn, NewEnd, Shared, TableNo, Texts, View};
 use sqlite_items::Items;
 use std::alloc::{AllocError, Global};
-use std::collections::BTreeMap;
 use std::marker::Model;
 
 /// The tables of a base without their rows, in order of number, and the numbers that come next. Copies share the tables.
@@ -21,23 +18,18 @@ use std::marker::Model;
 pub struct Schema {
     alloc: Global,
     tables: Tables,
-    places: Places,
     next_table: u32,
     next_column: u32,
     next_link: u32,
 }
 
 impl Model for Schema {
-    ghost use Rattle.std.specs.BTreeMap.{get_by_text};
     ghost use Rattle.sea_schema.specs.Layout.{Layout};
-    ghost use Rattle.sea_schema.specs.Places.{IsPlaces};
 
     ghost Value = { Layout };
 
     ghost view = { λ it. record
         { tables = it.tables; next_table = it.next_table; next_column = it.next_column; next_link = it.next_link } };
-
-    ghost invariant = { λ it. IsPlaces (get_by_text it.places) it.tables };
 }
 
 // A change of one table.
@@ -60,8 +52,7 @@ impl Schema {
     {
         Schema {
             alloc,
-            tables: Items::new(alloc),
-            places: BTreeMap::new(alloc),
+            tables: Tables::new(alloc),
             next_table: 1,
             next_column: 1,
             next_link: 1,
@@ -72,7 +63,10 @@ impl Schema {
     pub fn table(&self, name: &str) -> Option<&Table>
         ensures { option_copied result ≡ table_named self.now.tables name.now }
     {
-        found(self.tables.as_slice(), &self.places, name)
+        match self.tables.named(name) {
+            Some(table) => Some(table.get()),
+            None => None,
+        }
     }
 
     /// The tables in order of number.
@@ -117,7 +111,7 @@ impl Schema {
     {
         let number = TableNo(self.next_table);
         let table = Table::new(self.alloc, number, self.next_column, name, columns)?;
-        let mut tables = self.tables.duplicate(self.alloc)?;
+        let mut tables = self.tables.copies(self.alloc)?;
         tables.push(Shared::new(self.alloc, table)?)?;
         self.put_tables(tables)?;
         self.next_table += 1;
@@ -130,8 +124,7 @@ impl Schema {
         ensures ok { OnOk result (self.new ≡ in_table table.now (with_name to.now) self.old) }
         ensures err { OnErr result (self.new ≡ self.old) }
     {
-        let tables = self.changed(table, &Change::Name(to))?;
-        self.put_tables(tables)?;
+        self.change(table, &Change::Name(to))?;
         Ok(())
     }
 
@@ -176,7 +169,7 @@ impl Schema {
         ensures err { OnErr result (self.new ≡ self.old) }
     {
         let tables = self.tables_without_column(table, column)?;
-        self.set_tables(tables);
+        self.put_tables(tables)?;
         Ok(())
     }
 
@@ -232,7 +225,7 @@ impl Schema {
         ensures err { OnErr result (self.new ≡ self.old) }
     {
         let tables = self.tables_with_link(table, name, other)?;
-        self.set_tables(tables);
+        self.put_tables(tables)?;
         self.next_column += 2;
         self.next_link += 1;
         Ok(())
@@ -244,10 +237,9 @@ impl Schema {
         table: &str,
         name: &str,
         other: &NewEnd,
-    ) -> Result<Tables, AllocError>
+    ) -> Result<Items<Shared<Table>>, AllocError>
         requires { self.now.next_column + 1 < 2 ^ 32 }
-        ensures tables { IfOk result (λ tables. tables ≡ (with_link table.now name.now other.now self.now).tables) }
-        ensures places { IfOk result (λ tables. KeepsPlaces self.now.tables tables) }
+        ensures { IfOk result (λ tables. tables ≡ (with_link table.now name.now other.now self.now).tables) }
     {
         let key = self.next_column;
         let first = self.end_towards(other.table.as_str(), true);
@@ -280,18 +272,20 @@ impl Schema {
     }
 
     // The tables without a column, and without the other end of its link.
-    fn tables_without_column(&self, table: &str, column: &str) -> Result<Tables, AllocError>
-        ensures tables { IfOk result (λ tables. tables ≡ (without_column_of table.now column.now self.now).tables) }
-        ensures places { IfOk result (λ tables. KeepsPlaces self.now.tables tables) }
+    fn tables_without_column(
+        &self,
+        table: &str,
+        column: &str,
+    ) -> Result<Items<Shared<Table>>, AllocError>
+        ensures { IfOk result (λ tables. tables ≡ (without_column_of table.now column.now self.now).tables) }
     {
         let links = self.links_of_column(table, column)?;
         let tables = self.changed(table, &Change::WithoutColumn(column))?;
-        let unlinked = without_ends(self.alloc, tables, &links)?;
-        Ok(unlinked)
+        without_ends(self.alloc, tables, &links)
     }
 
     // The tables without one of them, and without the other ends of its links.
-    fn tables_without_table(&self, table: &str) -> Result<Tables, AllocError>
+    fn tables_without_table(&self, table: &str) -> Result<Items<Shared<Table>>, AllocError>
         ensures { IfOk result (λ tables. tables ≡ (without_table_of table.now self.now).tables) }
     {
         let links = self.links_of_table(table)?;
@@ -320,37 +314,26 @@ impl Schema {
     }
 
     // Puts tables in the place of those that there are.
-    fn put_tables(&mut self, tables: Tables) -> Result<(), AllocError>
+    fn put_tables(&mut self, tables: Items<Shared<Table>>) -> Result<(), AllocError>
         ensures ok { OnOk result (self.new ≡ record self.old { tables = tables }) }
         ensures err { OnErr result (self.new ≡ self.old) }
     {
-        let places = places_of(self.alloc, tables.as_slice())?;
-        self.tables = tables;
-        self.places = places;
+        self.tables = Tables::of(self.alloc, tables)?;
         Ok(())
     }
 
-    // Puts tables in the place of those that there are, where the table of each name keeps its place.
-    fn set_tables(&mut self, tables: Tables)
-        requires { KeepsPlaces self.old.tables tables }
-        ensures { self.new ≡ record self.old { tables = tables } }
-    {
-        self.tables = tables;
-    }
-
-    // Makes a change of the table of a name that leaves it its name.
+    // Makes a change of the table of a name.
     fn change(&mut self, name: &str, change: &Change) -> Result<(), AllocError>
-        requires { KeepsNames (change_of change.now) }
         ensures ok { OnOk result (self.new ≡ in_table name.now (change_of change.now) self.old) }
         ensures err { OnErr result (self.new ≡ self.old) }
     {
         let tables = self.changed(name, change)?;
-        self.set_tables(tables);
+        self.put_tables(tables)?;
         Ok(())
     }
 
     // The tables with a change of the one of a name.
-    fn changed(&self, name: &str, change: &Change) -> Result<Tables, AllocError>
+    fn changed(&self, name: &str, change: &Change) -> Result<Items<Shared<Table>>, AllocError>
         ensures { IfOk result (λ tables. tables ≡ map (if_table name.now (change_of change.now)) self.now.tables) }
     {
         Ok(changed_tables(self.alloc, self.tables.as_slice(), name, change)?)
@@ -362,7 +345,6 @@ impl Duplicate for Schema {
         Ok(Schema {
             alloc,
             tables: self.tables.duplicate(alloc)?,
-            places: places_of(alloc, self.tables.as_slice())?,
             next_table: self.next_table,
             next_column: self.next_column,
             next_link: self.next_link,
@@ -378,13 +360,11 @@ fn tables_with_end(
     key: u32,
     name: &str,
     end: LinkEnd,
-) -> Result<Tables, AllocError>
-    ensures ends { IfOk result (λ new. new ≡ map (if_table table.now (with_link_column key name.now end)) tables.now) }
-    ensures places { IfOk result (λ new. KeepsPlaces tables.now new) }
+) -> Result<Items<Shared<Table>>, AllocError>
+    ensures { IfOk result (λ new. new ≡ map (if_table table.now (with_link_column key name.now end)) tables.now) }
 {
     let change = Change::LinkColumn(ColKey(key), name, end);
-    let new = changed_tables(alloc, tables, table, &change)?;
-    Ok(new)
+    changed_tables(alloc, tables, table, &change)
 }
 
 // Tables with a change of the one of a name.
@@ -393,7 +373,7 @@ fn changed_tables(
     tables: &[Shared<Table>],
     name: &str,
     change: &Change,
-) -> Result<Tables, AllocError>
+) -> Result<Items<Shared<Table>>, AllocError>
     ensures { IfOk result (λ new. new ≡ map (if_table name.now (change_of change.now)) tables.now) }
 {
     let mut new = Items::new(alloc);
@@ -442,7 +422,11 @@ fn is_table(table: &Table, name: &str) -> bool
 }
 
 // The tables of other names.
-fn other_tables(alloc: Global, tables: &[Shared<Table>], name: &str) -> Result<Tables, AllocError>
+fn other_tables(
+    alloc: Global,
+    tables: &[Shared<Table>],
+    name: &str,
+) -> Result<Items<Shared<Table>>, AllocError>
     ensures { IfOk result (λ kept. kept ≡ filter (is_other_table_of name.now) tables.now) }
 {
     let mut kept = Items::new(alloc);

@@ -6,8 +6,8 @@ ghost use Rattle.sea_cell.specs.Once.{once};
 ghost use Rattle.sea_schema.specs.Tables.{column_named as column_named_of, key_named, view_named, column_of as column_for, columns_of as columns_for, table_of, with_name, with_column, if_named, column_with_name, with_column_name, column_with_options, with_options, is_view as is_view_of, if_view, put_view, with_view, is_other_view as is_other_view_of, without_view, has_other_name as has_other_name_of, is_of_other as is_of_other_of, without_filters, without_column};
 
 use sea_cell::{
-    ColKey, Column, Columns, Duplicate, Filter, Filters, NewColumn, Shared, TableNo, Text, Texts,
-    View, Views, without_repeats,
+    ColKey, Column, Columns, Duplicate, Filter, Filters, Indexed, Named, NewColumn, Shared,
+    TableNo, Text, Texts, View, Views, without_repeats,
 };
 use sqlite_items::Items;
 use std::alloc::{AllocError, Global};
@@ -21,8 +21,16 @@ pub struct Table {
     pub views: Views,
 }
 
-/// Tables in order of number. Their copies share them.
-pub type Tables = Items<Shared<Table>>;
+/// Tables in order of number, which are found by name. Their copies share them.
+pub type Tables = Indexed<Shared<Table>>;
+
+impl Named for Table {
+    ghost name = { λ table. table.name };
+
+    fn name(&self) -> &str {
+        self.name.as_str()
+    }
+}
 
 impl Table {
     /// A new table without views, whose columns have their keys from `key` on. Repeats among the options of a column
@@ -40,8 +48,8 @@ impl Table {
         Ok(Table {
             no,
             name: Text::copy_of(alloc, name)?,
-            columns: columns_of(alloc, key, columns)?,
-            views: Items::new(alloc),
+            columns: Columns::of(alloc, columns_of(alloc, key, columns)?)?,
+            views: Views::new(alloc),
         })
     }
 
@@ -49,7 +57,7 @@ impl Table {
     pub fn column(&self, name: &str) -> Option<&Column>
         ensures { option_copied result ≡ column_named_of self.now.columns name.now }
     {
-        column_named(self.columns.as_slice(), name)
+        self.columns.named(name)
     }
 
     /// The key of the column of a name, where there is one. It takes no memory.
@@ -66,10 +74,7 @@ impl Table {
     pub fn view(&self, name: &str) -> Option<&View>
         ensures { option_copied result ≡ view_named self.now.views name.now }
     {
-        self.views
-            .as_slice()
-            .iter()
-            .find(|view| view.name.as_str() == name)
+        self.views.named(name)
     }
 
     /// The table with another name.
@@ -84,6 +89,22 @@ impl Table {
         })
     }
 
+    /// The table with these columns in the place of its own.
+    pub(crate) fn with_columns(
+        &self,
+        alloc: Global,
+        columns: Items<Column>,
+    ) -> Result<Table, AllocError>
+        ensures { IfOk result (λ table. table ≡ record self.now { columns = columns }) }
+    {
+        Ok(Table {
+            no: self.no,
+            name: self.name.duplicate(alloc)?,
+            columns: Columns::of(alloc, columns)?,
+            views: self.views.duplicate(alloc)?,
+        })
+    }
+
     /// The table with one column more, at the end. The column is no link column.
     pub fn with_column(
         &self,
@@ -93,9 +114,9 @@ impl Table {
     ) -> Result<Table, AllocError>
         ensures { IfOk result (λ table. table ≡ with_column key.0 column.now self.now) }
     {
-        let mut table = self.duplicate(alloc)?;
-        table.columns.push(column_of(alloc, key.0, column)?)?;
-        Ok(table)
+        let mut columns = self.columns.copies(alloc)?;
+        columns.push(column_of(alloc, key.0, column)?)?;
+        self.with_columns(alloc, columns)
     }
 
     /// The table with another name for a column.
@@ -107,12 +128,8 @@ impl Table {
     ) -> Result<Table, AllocError>
         ensures { IfOk result (λ table. table ≡ with_column_name column.now to.now self.now) }
     {
-        Ok(Table {
-            no: self.no,
-            name: self.name.duplicate(alloc)?,
-            columns: columns_with_name(alloc, self.columns.as_slice(), column, to)?,
-            views: self.views.duplicate(alloc)?,
-        })
+        let columns = columns_with_name(alloc, self.columns.as_slice(), column, to)?;
+        self.with_columns(alloc, columns)
     }
 
     /// The table with more options for a select column: those that aren't there yet, at the end.
@@ -124,12 +141,8 @@ impl Table {
     ) -> Result<Table, AllocError>
         ensures { IfOk result (λ table. table ≡ with_options column.now options.now self.now) }
     {
-        Ok(Table {
-            no: self.no,
-            name: self.name.duplicate(alloc)?,
-            columns: columns_with_options(alloc, self.columns.as_slice(), column, options)?,
-            views: self.views.duplicate(alloc)?,
-        })
+        let columns = columns_with_options(alloc, self.columns.as_slice(), column, options)?;
+        self.with_columns(alloc, columns)
     }
 
     /// The table without a column. The filters that ask for its cells go too.
@@ -140,8 +153,11 @@ impl Table {
         Ok(Table {
             no: self.no,
             name: self.name.duplicate(alloc)?,
-            columns: columns_without(alloc, self.columns.as_slice(), column)?,
-            views: views_without(alloc, self.views.as_slice(), gone)?,
+            columns: Columns::of(
+                alloc,
+                columns_without(alloc, self.columns.as_slice(), column)?,
+            )?,
+            views: Views::of(alloc, views_without(alloc, self.views.as_slice(), gone)?)?,
         })
     }
 
@@ -153,7 +169,7 @@ impl Table {
             no: self.no,
             name: self.name.duplicate(alloc)?,
             columns: self.columns.duplicate(alloc)?,
-            views: views_with(alloc, &self.views, view)?,
+            views: Views::of(alloc, views_with(alloc, &self.views, view)?)?,
         })
     }
 
@@ -165,7 +181,7 @@ impl Table {
             no: self.no,
             name: self.name.duplicate(alloc)?,
             columns: self.columns.duplicate(alloc)?,
-            views: other_views(alloc, self.views.as_slice(), view)?,
+            views: Views::of(alloc, other_views(alloc, self.views.as_slice(), view)?)?,
         })
     }
 }
@@ -181,15 +197,8 @@ impl Duplicate for Table {
     }
 }
 
-/// The column of a name among these, where there is one. It takes no memory.
-pub fn column_named<'a>(columns: &'a [Column], name: &str) -> Option<&'a Column>
-    ensures { option_copied result ≡ column_named_of columns.now name.now }
-{
-    columns.iter().find(|column| column.name.as_str() == name)
-}
-
 // New columns whose keys are given from `key`.
-fn columns_of(alloc: Global, key: u32, columns: &[NewColumn]) -> Result<Columns, AllocError>
+fn columns_of(alloc: Global, key: u32, columns: &[NewColumn]) -> Result<Items<Column>, AllocError>
     requires { key + length columns.now < 2 ^ 32 }
     ensures { IfOk result (λ made. made ≡ columns_for key columns.now) }
 {
@@ -222,7 +231,7 @@ fn columns_with_name(
     columns: &[Column],
     name: &str,
     to: &str,
-) -> Result<Columns, AllocError>
+) -> Result<Items<Column>, AllocError>
     ensures { IfOk result (λ new. new ≡ map (if_named name.now (column_with_name to.now)) columns.now) }
 {
     let mut new = Items::new(alloc);
@@ -249,7 +258,7 @@ fn columns_with_options(
     columns: &[Column],
     name: &str,
     options: &Texts,
-) -> Result<Columns, AllocError>
+) -> Result<Items<Column>, AllocError>
     ensures { IfOk result (λ new. new ≡ map (if_named name.now (column_with_options options.now)) columns.now) }
 {
     let mut new = Items::new(alloc);
@@ -285,7 +294,11 @@ pub fn more_options(alloc: Global, options: &Texts, more: &Texts) -> Result<Text
 }
 
 // Columns without the one of a name.
-fn columns_without(alloc: Global, columns: &[Column], name: &str) -> Result<Columns, AllocError>
+fn columns_without(
+    alloc: Global,
+    columns: &[Column],
+    name: &str,
+) -> Result<Items<Column>, AllocError>
     ensures { IfOk result (λ kept. kept ≡ filter (has_other_name_of name.now) columns.now) }
 {
     let mut kept = Items::new(alloc);
@@ -305,7 +318,11 @@ fn has_other_name(column: &Column, name: &str) -> bool
 }
 
 // Views without their filters of a column.
-fn views_without(alloc: Global, views: &[View], column: Option<ColKey>) -> Result<Views, AllocError>
+fn views_without(
+    alloc: Global,
+    views: &[View],
+    column: Option<ColKey>,
+) -> Result<Items<View>, AllocError>
     ensures { IfOk result (λ new. new ≡ map (without_filters column) views.now) }
 {
     let mut new = Items::new(alloc);
@@ -354,13 +371,13 @@ fn is_of_other(filter: &Filter, column: Option<ColKey>) -> bool
 }
 
 // Views with this one.
-fn views_with(alloc: Global, views: &Views, view: &View) -> Result<Views, AllocError>
+fn views_with(alloc: Global, views: &Views, view: &View) -> Result<Items<View>, AllocError>
     ensures { IfOk result (λ new. new ≡ put_view view.now views.now) }
 {
     if has_view(views.as_slice(), view.name.as_str()) {
         return views_replaced(alloc, views.as_slice(), view);
     }
-    let mut new = views.duplicate(alloc)?;
+    let mut new = views.copies(alloc)?;
     new.push(view.duplicate(alloc)?)?;
     Ok(new)
 }
@@ -380,7 +397,7 @@ fn is_view(view: &View, name: &str) -> bool
 }
 
 // Views with this one in the place of the one of its name.
-fn views_replaced(alloc: Global, views: &[View], view: &View) -> Result<Views, AllocError>
+fn views_replaced(alloc: Global, views: &[View], view: &View) -> Result<Items<View>, AllocError>
     ensures { IfOk result (λ new. new ≡ map (if_view view.now) views.now) }
 {
     let mut new = Items::new(alloc);
@@ -401,7 +418,7 @@ fn replaced(alloc: Global, view: &View, new: &View) -> Result<View, AllocError>
 }
 
 // The views of other names.
-fn other_views(alloc: Global, views: &[View], name: &str) -> Result<Views, AllocError>
+fn other_views(alloc: Global, views: &[View], name: &str) -> Result<Items<View>, AllocError>
     ensures { IfOk result (λ kept. kept ≡ filter (is_other_view_of name.now) views.now) }
 {
     let mut kept = Items::new(alloc);

@@ -1,4 +1,4 @@
-use Rattle.std.proofs.Common.{◌<◌, length, ap, arith}
+use Rattle.std.proofs.Common.{◌<◌, length, ap, ◌∙◌, arith}
 use Rattle.sea_core.proofs.Alike.{keeps_then, keeps_rests, settled_rests}
 use Rattle.sea_core.proofs.Gates.{log_gate_keeps, images_are_short}
 use Rattle.sea_core.proofs.settling.lay_log_gate.Goals as goal
@@ -22,3 +22,12 @@ returns-clause-keeps g c told settled =
     let short : length ((g.D.Disk.shows c.size.new.self).seen c.args.file) < 6 = omega (arith, c.in_ok-size.ensures.size told, ap length (rests.seen c.args.file)) in
     keeps_then (keeps_rests (g.met.D.Disk.sound c.args.disk.now) rests)
     (log_gate_keeps c.one_list_at_most.ensures c.requires (g.met.D.Disk.sound c.size.new.self) (g.met.D.Disk.sound c.begin.new.disk) (settled_rests rests settled) short (c.begin.ensures.any_moment told (images_are_short c.args.file (g.D.Disk.shows c.size.new.self) (settled_rests rests settled c.args.file) short)))
+
+pub returns-then-branch-ge-SHORTEST_LOG-clause-others : goal.returns-then-branch-ge-SHORTEST_LOG-clause-others
+returns-then-branch-ge-SHORTEST_LOG-clause-others g c told settled other differs = (c.size.ensures.rests told).seen other
+
+pub returns-clause-others : goal.returns-clause-others
+returns-clause-others g c told settled other differs =
+    let rests = c.size.ensures.rests told in
+    let short : length ((g.D.Disk.shows c.size.new.self).seen c.args.file) < 6 = omega (arith, c.in_ok-size.ensures.size told, ap length (rests.seen c.args.file)) in
+    (c.begin.ensures.any_moment told (images_are_short c.args.file (g.D.Disk.shows c.size.new.self) (settled_rests rests settled c.args.file) short)).others.seen other differs ∙ rests.seen other

@@ -1,5 +1,6 @@
 use Rattle.std.proofs.lemmas.Result.{err_from_is_err_and}
 use Rattle.sea_core.proofs.Alike.{keeps_then, keeps_rests}
+use Rattle.sea_core.proofs.Gates.{gates_rest}
 use Rattle.sea_core.proofs.start.find.Goals as goal
 
 -- ---- the files can't be made safe
@@ -26,4 +27,7 @@ pub returns-clause-leaves : goal.returns-clause-leaves
 returns-clause-leaves g c told = (keeps_then (c.settle.ensures.keeps told) (keeps_rests (g.met.D.Disk.sound c.settle.new.disk) (c.read_base.ensures.rests told))).leaves
 
 pub returns-clause-ready : goal.returns-clause-ready
-returns-clause-ready g c told = c.in_ok-found.ensures.ready told (c.in_ok-settle.ensures.settled told) (c.in_ok-settle.ensures.gate told)
+returns-clause-ready g c told = c.in_ok-found.ensures.ready told (c.in_ok-settle.ensures.settled told) (c.in_ok-settle.ensures.gates told).log0
+
+pub returns-clause-gates : goal.returns-clause-gates
+returns-clause-gates g c told = gates_rest (c.read_base.ensures.rests told) (c.in_ok-settle.ensures.gates told)

@@ -47,7 +47,7 @@ turns-init g c =
       clock = refl;
       source = refl;
       sink = refl;
-      disk = record { later = omega (arith, c.in-Ok-start.ensures.faults); cause = λ is. absurd (cc) };
+      disk = c.in-Ok-start.ensures.faults;
       total = total_first place left rest c.in-Ok.ensures.nothing_read;
     }
 

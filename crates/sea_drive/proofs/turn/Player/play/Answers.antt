@@ -1,6 +1,8 @@
-use Rattle.std.proofs.Common.{inl, rules}
+use Rattle.std.proofs.Common.{sym, subst, inl, rules, arith}
 use Rattle.sea_drive.specs.Outcome.{is_disk_fault}
-use Rattle.sea_drive.proofs.Counts.{counted_on}
+use Rattle.sea_drive.specs.Play.{CountsDisk}
+use Rattle.sea_drive.specs.declared.ending.Status.{Status}
+use Rattle.sea_drive.proofs.Counts.{never_falls, counted_on, later_on, refused_counts, refused_later, cut_counts}
 use Rattle.sea_drive.proofs.turn.Player.play.Goals as goal
 
 -- the line was played, and its reply given
@@ -13,6 +15,27 @@ returns-in-On-clause-plays g c = inl (c.in-On.outcome, c.in-On.core, c.in-On.ens
 
 -- the disk's faults are counted on
 pub returns-in-None-clause-disk : goal.returns-in-None-clause-disk
-returns-in-None-clause-disk g c = λ start counted.
-    counted_on start (g.D.Disk.faults c.args.self.core.disk) (g.D.Disk.faults c.in-On.core.disk) c.args.self.faulted (is_disk_fault c.in-On.outcome) c.has_faulted-faulted.result
-    c.has_faulted-faulted.ensures c.in-On.ensures.counted.0 c.in-On.ensures.counted.1 counted
+returns-in-None-clause-disk g c = λ first counted.
+    counted_on first (g.D.Disk.faults c.args.self.core.disk) (g.D.Disk.faults c.in-On.core.disk) c.args.self.faulted (is_disk_fault c.in-On.outcome) c.has_faulted-faulted.result
+    c.has_faulted-faulted.ensures counted c.in-On.ensures.counted
+
+pub returns-in-On-clause-disk : goal.returns-in-On-clause-disk
+returns-in-On-clause-disk g c = λ first counted.
+    let later = later_on c.args.self.faulted (is_disk_fault c.in-On.outcome) first (g.D.Disk.faults c.args.self.core.disk) (g.D.Disk.faults c.in-On.core.disk) counted c.in-On.ensures.counted in
+    rw (← c.finish.ensures) at (cut_counts c.in-Some.status c.in-On.outcome _ _ first (g.D.Disk.faults c.in-On.core.disk) later c.in-Some.ensures.writes)
+
+-- the same where a reopening was refused
+pub returns-in-None-write-clause-disk : goal.returns-in-None-write-clause-disk
+returns-in-None-write-clause-disk g c = λ first counted.
+    let old = g.D.Disk.faults c.args.self.core.disk in
+    let new = g.D.Disk.faults c.in-Refused.disk in
+    let earlier = never_falls c.args.self.faulted first old counted in
+    subst (λ (status : Status). CountsDisk status first new) (sym c.start_status.ensures) (refused_counts c.in-Refused.fault first old new earlier c.in-Refused.ensures.counted)
+
+pub returns-clause-disk : goal.returns-clause-disk
+returns-clause-disk g c = λ first counted.
+    let old = g.D.Disk.faults c.args.self.core.disk in
+    let new = g.D.Disk.faults c.in-Refused.disk in
+    let earlier = never_falls c.args.self.faulted first old counted in
+    let later = refused_later c.in-Refused.fault old new c.in-Refused.ensures.counted in
+    cut_counts c.in-Some-write.status c.start_outcome.result _ _ first new (omega (arith, earlier, later)) c.in-Some-write.ensures.writes

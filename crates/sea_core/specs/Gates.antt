@@ -1,0 +1,20 @@
+-- The first gates of the files, which a start lays where they are missing.
+use Rattle.std.specs.Prelude.{◌≢◌, ◌⊎◌, ℕ, ◌≤◌, List, [], length, slice_index}
+use Rattle.sea_disk.specs.declared.file.File.TheVariants.{Base0, Base1, Log0, Log1}
+use Rattle.sea_disk.specs.Shown.{Files}
+use Rattle.sea_log.specs.Records.{IsClosedAt}
+
+-- a log that a record can be appended to: it is no short file, or its first gate is laid, closed
+abbrev pub HasGate : List ℕ → Type 0
+HasGate bytes = (6 ≤ length bytes) ⊎ IsClosedAt bytes [] 0
+
+-- the same of a base file, whose gate counts from 17 bytes on
+abbrev pub HasBaseGate : List ℕ → Type 0
+HasBaseGate bytes = (17 ≤ length bytes) ⊎ ((1 ≤ length bytes) × (slice_index bytes 0 ≢ 1))
+
+-- each base file and each log has its first gate
+pub record AreGatesLaid (files : Files) : Type 0 where
+  pub base0 : HasBaseGate (files Base0)
+  pub base1 : HasBaseGate (files Base1)
+  pub log0 : HasGate (files Log0)
+  pub log1 : HasGate (files Log1)
