@@ -1,5 +1,6 @@
 """What the benches share: the program behind its pipes, folders that go again, and medians."""
 import contextlib
+import functools
 import os
 import shutil
 import statistics
@@ -9,13 +10,24 @@ import tempfile
 TOP = os.path.dirname(os.path.dirname(os.path.abspath(__file__)))
 
 
+@functools.cache
+def program():
+    """The path of the program, which its start script builds where it is missing or old."""
+    subprocess.run(
+        [os.path.join(TOP, "bin", "seatable"), "help"], stdout=subprocess.DEVNULL
+    )
+    return os.path.join(TOP, "crates", "seatable_main", "out", "seatable_main")
+
+
 class Playing:
-    """`bin/seatable play` on a folder, from its start to the end of its input. Use it by `with`."""
+    """The program's `play` on a folder, from its start to the end of its input. Use it by `with`."""
 
     def __init__(self, folder):
-        words = [os.path.join(TOP, "bin", "seatable"), "play", folder]
         self.process = subprocess.Popen(
-            words, stdin=subprocess.PIPE, stdout=subprocess.PIPE, bufsize=0
+            [program(), "play", folder],
+            stdin=subprocess.PIPE,
+            stdout=subprocess.PIPE,
+            bufsize=0,
         )
 
     def __enter__(self):
