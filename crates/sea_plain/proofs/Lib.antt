@@ -1,6 +1,8 @@
 pub mod Alike
+pub mod Firsts
 pub mod Joining
 pub mod Linkless
+pub mod Numbered
 pub mod Numbers
 pub mod Repeats
 pub mod Stamps

@@ -1,6 +1,7 @@
 pub mod Apply
 pub mod Base
 pub mod Checks
+pub mod Firsts
 pub mod Joined
 pub mod Linked
 pub mod Makes

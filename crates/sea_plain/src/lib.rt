@@ -35,7 +35,10 @@ mod viewing;
 pub use apply::{apply_plain, run_plain};
 pub use base::{Plain, PlainPairs, PlainTable, PlainTables};
 pub use checking::check;
-pub use laws::schemas_change_alike;
+pub use laws::{
+    a_bad_filter_is_the_first, a_repeat_is_the_first, entries_are_taken_in_turn,
+    new_rows_have_their_numbers, schemas_change_alike,
+};
 pub use linked::{TableRows, Tables, rows_shown, tables_of};
 pub use lookup::plain_named;
 pub use operation::{

@@ -1,3 +1,4 @@
 pub mod BackLaws
 pub mod EndsLaws
+pub mod KeysLaws
 pub mod LinksLaws

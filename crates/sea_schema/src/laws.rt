@@ -1,8 +1,10 @@
-// What holds of links and their changes.
-ghost use Rattle.std.specs.Prelude.{◌≡◌, ℕ, ◌∷◌, [], List, true, false};
+// What holds of keys, and of links and their changes.
+ghost use Rattle.std.specs.Prelude.{◌≡◌, ◌+◌, ℕ, ◌∷◌, [], List, true, false, option_map, slice_get};
 ghost use Rattle.std.specs.List.{list_any};
+ghost use Rattle.sea_cell.specs.declared.layout.NewColumn.{NewColumn};
 ghost use Rattle.sea_cell.specs.declared.layout.NewEnd.{NewEnd};
 ghost use Rattle.sea_schema.specs.Layout.{Layout, with_link, links_of_column, links_of_table, without_column_of, without_table_of};
+ghost use Rattle.sea_schema.specs.Tables.{column_of, columns_of};
 ghost use Rattle.sea_schema.specs.Ends.{is_named, count_named, have_ends, count_ends, have_column, have_filters};
 
 /// A link of a new number has as many first ends as there are tables of the one name, and as many other ends as there are
@@ -14,4 +16,9 @@ pub fn links_have_two_ends()
     ensures gone_with_column { (layout : Layout) (table column : List ℕ) → have_ends (links_of_column table column layout.tables) (without_column_of table column layout).tables ≡ false }
     ensures gone_with_table { (layout : Layout) (table : List ℕ) → have_ends (links_of_table table layout.tables) (without_table_of table layout).tables ≡ false }
     ensures taken_back { (layout : Layout) (table name : List ℕ) (other : NewEnd) → list_any (is_named table) layout.tables ≡ true → have_column table name layout.tables ≡ false → have_ends (layout.next_link ∷ []) layout.tables ≡ false → have_filters layout.next_column layout.tables ≡ false → (without_column_of table name (with_link table name other layout)).tables ≡ layout.tables }
+{}
+
+/// The new column in each place has the key that lies so many behind the first one's.
+pub fn new_columns_have_their_keys()
+    ensures { (key : ℕ) (columns : List NewColumn) (at : ℕ) → slice_get (columns_of key columns) at ≡ option_map (column_of (key + at)) (slice_get columns at) }
 {}

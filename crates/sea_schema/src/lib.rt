@@ -14,7 +14,7 @@ mod table;
 #[cfg(test)]
 mod tests;
 
-pub use laws::links_have_two_ends;
+pub use laws::{links_have_two_ends, new_columns_have_their_keys};
 pub use links::is_link_among;
 pub use schema::Schema;
 pub use table::{Table, Tables, more_options};
