@@ -5,6 +5,7 @@ use sea_log::{append, begin};
 use sea_ops::{op_of_json, record_of_entry};
 use sea_plain::Entry;
 use std::alloc::Global;
+use std::process::Abort;
 use std::test::Fail;
 
 // An operation of 72 bytes.
@@ -13,15 +14,19 @@ const TABLE: &str = r#"{"columns":[{"name":"N","type":"text"}],"op":"insert_tabl
 // How many bytes a log may have at most.
 const MOST: u64 = 268_435_456;
 
-// The version of the base that a disk holds, and the disk.
-fn found(alloc: Global, disk: MemDisk) -> Result<(u64, MemDisk), StartFault> {
-    match Core::start(alloc, disk, Limits::standard()) {
-        Ok(core) => {
-            let version = core.base.version;
-            Ok((version, core.finish()))
-        }
+// A base that is started on a disk.
+fn started(alloc: Global, disk: MemDisk, limits: Limits) -> Result<Core<MemDisk>, StartFault> {
+    match Core::start(alloc, disk, limits) {
+        Ok(core) => Ok(core),
         Err((fault, _)) => Err(fault),
     }
+}
+
+// The version of the base that a disk holds, and the disk.
+fn found(alloc: Global, disk: MemDisk) -> Result<(u64, MemDisk), StartFault> {
+    let core = started(alloc, disk, Limits::standard())?;
+    let version = core.base.version;
+    Ok((version, core.finish()))
 }
 
 // Edits the operation.
@@ -43,13 +48,9 @@ fn edited(
     disk: MemDisk,
     limits: Limits,
 ) -> Result<(Result<u64, CoreFault>, MemDisk), StartFault> {
-    match Core::start(alloc, disk, limits) {
-        Ok(mut core) => {
-            let result = insert_table(alloc, &mut core);
-            Ok((result, core.finish()))
-        }
-        Err((fault, _)) => Err(fault),
-    }
+    let mut core = started(alloc, disk, limits)?;
+    let result = insert_table(alloc, &mut core);
+    Ok((result, core.finish()))
 }
 
 // The versions that a blank disk, an edit and a second start give.
@@ -91,21 +92,28 @@ fn disk_with(alloc: Global, file: File, bytes: &[u8]) -> Result<MemDisk, Fail> {
     Ok(disk)
 }
 
+// An open gate of a base file, and what such a file begins with.
+const OPEN: &[u8] = b"\x01\0\0\0\0\0\0\0\0\0\0\0\0\0\0\0\0";
+
+// An open gate of a log, and an empty record with its closed gate.
+const EMPTY_RECORD: &[u8] = b"\x01\0\0\0\0\0";
+
+// Stops a test where a disk with these bytes in a file holds a base.
+fn is_no_base(rt: &impl Abort, alloc: Global, file: File, bytes: &[u8]) -> Result<(), Fail> {
+    let disk = disk_with(alloc, file, bytes)?;
+    assert!(rt; matches!(found(alloc, disk), Err(StartFault::NotABase)));
+    Ok(())
+}
+
 #[test]
 fn files_that_stand_for_no_base(rt: HostRuntime) -> Result<(), Fail> {
-    let open = [1, 0, 0, 0, 0, 0, 0, 0, 0, 0, 0, 0, 0, 0, 0, 0, 0];
-    let table: [(File, &[u8]); 4] = [
-        (File::Base0, &open),
-        (File::Base1, &open),
-        (File::Log0, &[1, 0, 0, 0, 0, 0]),
-        (File::Log1, &[1, 0, 0, 0, 0, 0]),
-    ];
-    for (file, bytes) in table {
-        let disk = disk_with(rt.alloc(), file, bytes)?;
-        assert!(rt; matches!(found(rt.alloc(), disk), Err(StartFault::NotABase)));
-    }
-    let disk = disk_with(rt.alloc(), File::Base0, &open[..16])?;
-    assert!(rt; matches!(found(rt.alloc(), disk), Ok((0, _))));
+    let alloc = rt.alloc();
+    is_no_base(&rt, alloc, File::Base0, OPEN)?;
+    is_no_base(&rt, alloc, File::Base1, OPEN)?;
+    is_no_base(&rt, alloc, File::Log0, EMPTY_RECORD)?;
+    is_no_base(&rt, alloc, File::Log1, EMPTY_RECORD)?;
+    let disk = disk_with(alloc, File::Base0, &OPEN[..16])?;
+    assert!(rt; matches!(found(alloc, disk), Ok((0, _))));
     Ok(())
 }
 
@@ -135,7 +143,7 @@ fn records_are_numbered_from_one(rt: HostRuntime) -> Result<(), Fail> {
 
 // What two edits answer where the first sync of the first one fails, and the version that is found then.
 fn failed_edits(alloc: Global, disk: MemDisk) -> Option<(CoreFault, CoreFault, u64)> {
-    let Ok(mut core) = Core::start(alloc, disk, Limits::standard()) else {
+    let Ok(mut core) = started(alloc, disk, Limits::standard()) else {
         return None;
     };
     let call = core.disk.calls().saturating_add(2);

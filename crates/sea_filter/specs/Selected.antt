@@ -1,5 +1,5 @@
 -- Which rows a view selects.
-use Rattle.std.specs.Prelude.{ℕ, ◌==◌, List, [], ◌∷◌, map, filter, Bool, true, false, if◌then◌else◌, Option}
+use Rattle.std.specs.Prelude.{◌==◌, List, [], ◌∷◌, map, filter, Bool, true, false, Option}
 use Rattle.std.specs.List.{find, list_all, list_any}
 use Rattle.std.specs.Option.{option_map_or}
 use Rattle.sea_cell.specs.Cells.{cell_in}

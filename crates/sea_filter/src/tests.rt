@@ -77,8 +77,8 @@ fn term_of(alloc: Global, key: u32, text: Option<&str>) -> Result<Term, AllocErr
     Ok(Term::Cell(value_of(alloc, key, text)?))
 }
 
-// A row made at a moment of its number, with the cells that aren't empty texts.
-fn row_of(alloc: Global, id: &str, number: u64, cells: [&str; 7]) -> Result<Row, AllocError> {
+// A row with the cells that stand between bars and aren't empty.
+fn row_of(alloc: Global, id: &str, number: u64, cells: &str) -> Result<Row, AllocError> {
     let mut row = Row {
         id: RowId(Text::copy_of(alloc, id)?),
         number,
@@ -87,7 +87,7 @@ fn row_of(alloc: Global, id: &str, number: u64, cells: [&str; 7]) -> Result<Row,
         cells: Cells::new(alloc),
     };
     let mut key = 0;
-    for cell in cells {
+    for cell in cells.split('|') {
         if key < 8 {
             key += 1;
         }
@@ -101,10 +101,10 @@ fn row_of(alloc: Global, id: &str, number: u64, cells: [&str; 7]) -> Result<Row,
 // Three rows: a full one, an empty one, and another full one.
 fn rows_of(alloc: Global) -> Result<Rows, AllocError> {
     let mut rows = Rows::new(alloc);
-    let anna = ["Anna", "3", "3", "yes", "open", "red,blue", "Ann"];
-    let bert = ["Bert", "5", "5", "no", "closed", "blue", "Ann,Bob"];
+    let anna = "Anna|3|3|yes|open|red,blue|Ann";
+    let bert = "Bert|5|5|no|closed|blue|Ann,Bob";
     rows.push(Shared::new(alloc, row_of(alloc, "a", 1, anna)?)?)?;
-    rows.push(Shared::new(alloc, row_of(alloc, "e", 2, [""; 7])?)?)?;
+    rows.push(Shared::new(alloc, row_of(alloc, "e", 2, "")?)?)?;
     rows.push(Shared::new(alloc, row_of(alloc, "b", 3, bert)?)?)?;
     Ok(rows)
 }

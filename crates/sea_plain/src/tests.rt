@@ -195,103 +195,63 @@ fn small_base(rt: &impl Abort, alloc: Global) -> Result<Plain, Fail> {
     Ok(base)
 }
 
+// What stands before the arrow of a row of a table, and what stands behind it.
+fn halves(row: &str) -> (&str, &str) {
+    match row.split_once(" -> ") {
+        Some(halves) => halves,
+        None => (row, ""),
+    }
+}
+
+// Operations, and the base after each.
+const ACCEPTED: &str =
+    r#"{"table":"T","columns":["Name","Note"]} -> 1 | 1 2 3 1 | 1 T: Name=1 Note=2
+{"table":"T","rows":[{"Name":"A"},{"_id":"x","Note":"é","Name":"B"}]} -> 2 | 3 2 3 1 | 1 T: Name=1 Note=2 <r1 1 11-11 1=A> <x 2 11-11 1=B 2=é>
+{"table":"U","columns":["Name"]} -> 3 | 3 3 4 1 | 1 T: Name=1 Note=2 <r1 1 11-11 1=A> <x 2 11-11 1=B 2=é> 2 U: Name=3
+{"table":"U","rows":[{"_id":"x","Name":"C"},{"Name":null},{"Name":""}]} -> 4 | 6 3 4 1 | 1 T: Name=1 Note=2 <r1 1 11-11 1=A> <x 2 11-11 1=B 2=é> 2 U: Name=3 <x 3 13-13 3=C> <r4 4 13-13> <r5 5 13-13>
+{"table":"T","rows":[]} -> 5 | 6 3 4 1 | 1 T: Name=1 Note=2 <r1 1 11-11 1=A> <x 2 11-11 1=B 2=é> 2 U: Name=3 <x 3 13-13 3=C> <r4 4 13-13> <r5 5 13-13>
+"#;
+
 #[test]
 fn accepts(rt: HostRuntime) -> Result<(), Fail> {
     let alloc = rt.alloc();
     let mut base = Plain::new(alloc);
-    for (moment, text, after) in [
-        (
-            10,
-            r#"{"table":"T","columns":["Name","Note"]}"#,
-            "1 | 1 2 3 1 | 1 T: Name=1 Note=2",
-        ),
-        (
-            11,
-            r#"{"table":"T","rows":[{"Name":"A"},{"_id":"x","Note":"é","Name":"B"}]}"#,
-            "2 | 3 2 3 1 | 1 T: Name=1 Note=2 <r1 1 11-11 1=A> <x 2 11-11 1=B 2=é>",
-        ),
-        (
-            12,
-            r#"{"table":"U","columns":["Name"]}"#,
-            "3 | 3 3 4 1 | 1 T: Name=1 Note=2 <r1 1 11-11 1=A> <x 2 11-11 1=B 2=é> 2 U: Name=3",
-        ),
-        (
-            13,
-            r#"{"table":"U","rows":[{"_id":"x","Name":"C"},{"Name":null},{"Name":""}]}"#,
-            "4 | 6 3 4 1 | 1 T: Name=1 Note=2 <r1 1 11-11 1=A> <x 2 11-11 1=B 2=é> 2 U: Name=3 <x 3 13-13 3=C> <r4 4 13-13> <r5 5 13-13>",
-        ),
-        (
-            14,
-            r#"{"table":"T","rows":[]}"#,
-            "5 | 6 3 4 1 | 1 T: Name=1 Note=2 <r1 1 11-11 1=A> <x 2 11-11 1=B 2=é> 2 U: Name=3 <x 3 13-13 3=C> <r4 4 13-13> <r5 5 13-13>",
-        ),
-    ] {
+    let mut moment: i64 = 9;
+    for row in ACCEPTED.lines() {
+        let (text, after) = halves(row);
+        moment = moment.wrapping_add(1);
         says(&rt, alloc, &mut base, text, moment, DONE)?;
         same(&rt, shown(alloc, &base)?.as_str(), after, text);
     }
     Ok(())
 }
 
+// Operations on the small base, and why each is refused: for its table and columns, its names and ids, what is taken,
+// its cells, and ids that are in use, given twice, and given out.
+const REFUSED: &str = r#"{"table":"U","rows":[{"Age":1,"_id":""}]} -> NoTable U
+{"table":"","rows":[]} -> NoTable 
+{"table":"T","rows":[{"Name":"B"},{"Zip":1,"Age":1},{"Abc":1}]} -> NoColumn Age
+{"table":"T","rows":[{"_id":"","Name":7},{"name":"B"}]} -> NoColumn name
+{"table":"_U","columns":["Name","a`b","","Name"]} -> BadName a`b
+{"table":"_U","columns":["Name","Name"]} -> BadName _U
+{"table":"T","rows":[{"_id":"x","Name":7},{"_id":"a b"},{"_id":""}]} -> BadName a b
+{"table":"T","columns":["A","B","B","A"]} -> NameTaken B
+{"table":"T","columns":["A","a"]} -> NameTaken T
+{"table":"T","rows":[{"_id":"x","Name":"B"},{"Note":7,"Name":"B"},{"Name":7}]} -> BadCell Note NotText
+{"table":"T","rows":[{"_id":"x","Note":[],"Name":true}]} -> BadCell Name NotText
+{"table":"T","rows":[{"_id":"y"},{"_id":"r1"},{"_id":"x"}]} -> DuplicateRow r1
+{"table":"T","rows":[{"_id":"a"},{"_id":"b"},{"_id":"b"},{"_id":"a"}]} -> DuplicateRow b
+{"table":"T","rows":[{"_id":"r4"},{}]} -> DuplicateRow r4
+{"table":"T","rows":[{},{"_id":"r3"}]} -> DuplicateRow r3
+"#;
+
 #[test]
 fn refuses(rt: HostRuntime) -> Result<(), Fail> {
     let alloc = rt.alloc();
     let mut base = small_base(&rt, alloc)?;
     let before = shown(alloc, &base)?;
-    for (text, refusal) in [
-        // a table, and its columns
-        (r#"{"table":"U","rows":[{"Age":1,"_id":""}]}"#, "NoTable U"),
-        (r#"{"table":"","rows":[]}"#, "NoTable "),
-        (
-            r#"{"table":"T","rows":[{"Name":"B"},{"Zip":1,"Age":1},{"Abc":1}]}"#,
-            "NoColumn Age",
-        ),
-        (
-            r#"{"table":"T","rows":[{"_id":"","Name":7},{"name":"B"}]}"#,
-            "NoColumn name",
-        ),
-        // names and ids
-        (
-            r#"{"table":"_U","columns":["Name","a`b","","Name"]}"#,
-            "BadName a`b",
-        ),
-        (r#"{"table":"_U","columns":["Name","Name"]}"#, "BadName _U"),
-        (
-            r#"{"table":"T","rows":[{"_id":"x","Name":7},{"_id":"a b"},{"_id":""}]}"#,
-            "BadName a b",
-        ),
-        // what is taken
-        (
-            r#"{"table":"T","columns":["A","B","B","A"]}"#,
-            "NameTaken B",
-        ),
-        (r#"{"table":"T","columns":["A","a"]}"#, "NameTaken T"),
-        // cells
-        (
-            r#"{"table":"T","rows":[{"_id":"x","Name":"B"},{"Note":7,"Name":"B"},{"Name":7}]}"#,
-            "BadCell Note NotText",
-        ),
-        (
-            r#"{"table":"T","rows":[{"_id":"x","Note":[],"Name":true}]}"#,
-            "BadCell Name NotText",
-        ),
-        // ids that are in use, given twice, and given out
-        (
-            r#"{"table":"T","rows":[{"_id":"y"},{"_id":"r1"},{"_id":"x"}]}"#,
-            "DuplicateRow r1",
-        ),
-        (
-            r#"{"table":"T","rows":[{"_id":"a"},{"_id":"b"},{"_id":"b"},{"_id":"a"}]}"#,
-            "DuplicateRow b",
-        ),
-        (
-            r#"{"table":"T","rows":[{"_id":"r4"},{}]}"#,
-            "DuplicateRow r4",
-        ),
-        (
-            r#"{"table":"T","rows":[{},{"_id":"r3"}]}"#,
-            "DuplicateRow r3",
-        ),
-    ] {
+    for row in REFUSED.lines() {
+        let (text, refusal) = halves(row);
         says(&rt, alloc, &mut base, text, 6, refusal)?;
         same(&rt, shown(alloc, &base)?.as_str(), before.as_str(), text);
     }
@@ -341,48 +301,47 @@ fn names(
     Ok(())
 }
 
+// Makes a table and a column of a name, and a row of it as its id.
+fn names_of_all(
+    rt: &impl Abort,
+    alloc: Global,
+    base: &Plain,
+    name: &str,
+    is_name: bool,
+    is_id: bool,
+) -> Result<(), Fail> {
+    let table = insert_op(alloc, name, "Name")?;
+    names(rt, alloc, base, table, name, is_name)?;
+    let column = insert_op(alloc, "U", name)?;
+    names(rt, alloc, base, column, name, is_name)?;
+    names(rt, alloc, base, append_op(alloc, name)?, name, is_id)
+}
+
+// Texts between bars that are names and ids, names alone, and neither.
+const BOTH: &str = "a|-a_Z9|abcdefghijklmnopqrstuv";
+
+const NAMES: &str = " |é|a.b|a@[{/:|abcdefghijklmnopqrstuvw";
+
+const NEITHER: &str = "|a`b|a\u{1f}|a\u{7f}";
+
 #[test]
 fn names_and_ids(rt: HostRuntime) -> Result<(), Fail> {
     let alloc = rt.alloc();
     let base = small_base(&rt, alloc)?;
-    let long = parts(alloc, "abc", 15, "abcd")?;
-    let longer = parts(alloc, "abc", 15, "abcde")?;
-    for (name, is_name, is_id) in [
-        ("a", true, true),
-        ("_", false, true),
-        ("-a_Z9", true, true),
-        ("", false, false),
-        (" ", true, false),
-        ("é", true, false),
-        ("a.b", true, false),
-        ("a@[{/:", true, false),
-        ("a`b", false, false),
-        ("a\u{1f}", false, false),
-        ("a\u{7f}", false, false),
-        ("abcdefghijklmnopqrstuv", true, true),
-        ("abcdefghijklmnopqrstuvw", true, false),
-        (long.as_str(), true, false),
-        (longer.as_str(), false, false),
-    ] {
-        names(
-            &rt,
-            alloc,
-            &base,
-            insert_op(alloc, name, "Name")?,
-            name,
-            is_name,
-        )?;
-        names(
-            &rt,
-            alloc,
-            &base,
-            insert_op(alloc, "U", name)?,
-            name,
-            is_name,
-        )?;
-        names(&rt, alloc, &base, append_op(alloc, name)?, name, is_id)?;
+    for name in BOTH.split('|') {
+        names_of_all(&rt, alloc, &base, name, true, true)?;
     }
-    Ok(())
+    for name in NAMES.split('|') {
+        names_of_all(&rt, alloc, &base, name, true, false)?;
+    }
+    for name in NEITHER.split('|') {
+        names_of_all(&rt, alloc, &base, name, false, false)?;
+    }
+    names_of_all(&rt, alloc, &base, "_", false, true)?;
+    let long = parts(alloc, "abc", 15, "abcd")?;
+    names_of_all(&rt, alloc, &base, long.as_str(), true, false)?;
+    let longer = parts(alloc, "abc", 15, "abcde")?;
+    names_of_all(&rt, alloc, &base, longer.as_str(), false, false)
 }
 
 // So many equal parts and another one behind them, with commas between.
@@ -412,20 +371,42 @@ fn insert_of(alloc: Global, table: &str, count: usize) -> Result<String, AllocEr
     format!(in alloc; r#"{{"table":"{table}","columns":[{names}"c0"]}}"#)
 }
 
+// Appends so many rows and one more.
+fn says_of_rows(
+    rt: &impl Abort,
+    alloc: Global,
+    base: &mut Plain,
+    count: usize,
+    last: &str,
+    said: &str,
+) -> Result<(), Fail> {
+    let text = append_of(alloc, count, last)?;
+    says(rt, alloc, base, text.as_str(), 6, said)
+}
+
 #[test]
 fn rows_of_an_operation(rt: HostRuntime) -> Result<(), Fail> {
     let alloc = rt.alloc();
     let mut base = small_base(&rt, alloc)?;
-    for (count, last, said) in [
-        (999, "{}", DONE),
-        (1_000, "{}", "TooMany 1000"),
-        (1_000, r#"{"_id":"x"}"#, "DuplicateRow x"),
-    ] {
-        let text = append_of(alloc, count, last)?;
-        says(&rt, alloc, &mut base, text.as_str(), 6, said)?;
-    }
+    says_of_rows(&rt, alloc, &mut base, 999, "{}", DONE)?;
+    says_of_rows(&rt, alloc, &mut base, 1_000, "{}", "TooMany 1000")?;
+    let used = r#"{"_id":"x"}"#;
+    says_of_rows(&rt, alloc, &mut base, 1_000, used, "DuplicateRow x")?;
     assert_eq!(rt; (base.version, base.next_row), (3, 1_003));
     Ok(())
+}
+
+// Makes a table with so many columns and one more.
+fn says_of_columns(
+    rt: &impl Abort,
+    alloc: Global,
+    base: &mut Plain,
+    table: &str,
+    count: usize,
+    said: &str,
+) -> Result<(), Fail> {
+    let text = insert_of(alloc, table, count)?;
+    says(rt, alloc, base, text.as_str(), 6, said)
 }
 
 #[test]
@@ -436,14 +417,9 @@ fn tables_and_columns(rt: HostRuntime) -> Result<(), Fail> {
         let table = format!(in alloc; r#"{{"table":"T{number}","columns":["Name"]}}"#)?;
         says(&rt, alloc, &mut base, table.as_str(), 6, DONE)?;
     }
-    for (table, count, said) in [
-        ("U", 200, "TooMany 200"),
-        ("U", 199, DONE),
-        ("V", 200, "TooMany 64"),
-    ] {
-        let text = insert_of(alloc, table, count)?;
-        says(&rt, alloc, &mut base, text.as_str(), 6, said)?;
-    }
+    says_of_columns(&rt, alloc, &mut base, "U", 200, "TooMany 200")?;
+    says_of_columns(&rt, alloc, &mut base, "U", 199, DONE)?;
+    says_of_columns(&rt, alloc, &mut base, "V", 200, "TooMany 64")?;
     assert_eq!(rt;
         (base.tables.len(), base.next_table, base.next_column),
         (64, 65, 265)
@@ -463,76 +439,67 @@ fn wide_row(alloc: Global, last: usize) -> Result<String, AllocError> {
     format!(in alloc; r#"{{{members}"c0":"{text}","_id":"ab"}}"#)
 }
 
+// Appends so many empty rows and a wide one to a new table, at a moment.
+fn says_of_size(
+    rt: &impl Abort,
+    alloc: Global,
+    last: usize,
+    count: usize,
+    moment: i64,
+    said: &str,
+) -> Result<(), Fail> {
+    let mut base = Plain::new(alloc);
+    let insert = insert_of(alloc, "T", 8)?;
+    says(rt, alloc, &mut base, insert.as_str(), moment, DONE)?;
+    let row = wide_row(alloc, last)?;
+    let append = append_of(alloc, count, row.as_str())?;
+    says(rt, alloc, &mut base, append.as_str(), moment, said)
+}
+
 #[test]
 fn sizes(rt: HostRuntime) -> Result<(), Fail> {
     let alloc = rt.alloc();
-    let insert = insert_of(alloc, "T", 8)?;
-    for (last, count, moment, said) in [
-        (83, 0, FIRST, DONE),
-        (84, 0, LAST, "RowTooBig 8193"),
-        (84, 1_000, 6, "TooMany 1000"),
-        (83, 0, LAST, DONE),
-    ] {
-        let mut base = Plain::new(alloc);
-        says(&rt, alloc, &mut base, insert.as_str(), moment, DONE)?;
-        let row = wide_row(alloc, last)?;
-        let append = append_of(alloc, count, row.as_str())?;
-        says(&rt, alloc, &mut base, append.as_str(), moment, said)?;
-    }
-    Ok(())
+    says_of_size(&rt, alloc, 83, 0, FIRST, DONE)?;
+    says_of_size(&rt, alloc, 84, 0, LAST, "RowTooBig 8193")?;
+    says_of_size(&rt, alloc, 84, 1_000, 6, "TooMany 1000")?;
+    says_of_size(&rt, alloc, 83, 0, LAST, DONE)
+}
+
+// Makes a table of a bad name, and appends to one that isn't there, in a base whose numbers are these.
+fn says_of_numbers(
+    rt: &impl Abort,
+    alloc: Global,
+    numbers: (u64, u64, u32, u32),
+    of_insert: &str,
+    of_append: &str,
+) -> Result<(), Fail> {
+    let insert = r#"{"table":"_","columns":["_","_"]}"#;
+    let append = r#"{"table":"_","rows":[{"_id":"."},{}]}"#;
+    let mut base = Plain::new(alloc);
+    base.version = numbers.0;
+    base.next_row = numbers.1;
+    base.next_table = numbers.2;
+    base.next_column = numbers.3;
+    says(rt, alloc, &mut base, insert, 6, of_insert)?;
+    says(rt, alloc, &mut base, append, 6, of_append)
 }
 
 #[test]
 fn spent_numbers(rt: HostRuntime) -> Result<(), Fail> {
     let alloc = rt.alloc();
-    let insert = r#"{"table":"_","columns":["_","_"]}"#;
-    let append = r#"{"table":"_","rows":[{"_id":"."},{}]}"#;
     let last = 1 << 62;
     let top = u32::MAX;
-    for (version, next_row, next_table, next_column, of_insert, of_append) in [
-        (
-            last - 1,
-            last - 2,
-            top - 1,
-            top - 2,
-            "BadName _",
-            "NoTable _",
-        ),
-        (
-            last,
-            last,
-            top,
-            top,
-            "NumbersSpent version",
-            "NumbersSpent version",
-        ),
-        (
-            0,
-            last - 1,
-            top,
-            top - 1,
-            "NumbersSpent next_table",
-            "NumbersSpent next_row",
-        ),
-        (0, 1, 1, top - 1, "NumbersSpent next_column", "NoTable _"),
-        (
-            u64::MAX,
-            u64::MAX,
-            1,
-            top,
-            "NumbersSpent version",
-            "NumbersSpent version",
-        ),
-    ] {
-        let mut base = Plain::new(alloc);
-        base.version = version;
-        base.next_row = next_row;
-        base.next_table = next_table;
-        base.next_column = next_column;
-        says(&rt, alloc, &mut base, insert, 6, of_insert)?;
-        says(&rt, alloc, &mut base, append, 6, of_append)?;
-    }
-    Ok(())
+    let version = "NumbersSpent version";
+    let column = "NumbersSpent next_column";
+    let numbers = (last - 1, last - 2, top - 1, top - 2);
+    says_of_numbers(&rt, alloc, numbers, "BadName _", "NoTable _")?;
+    says_of_numbers(&rt, alloc, (last, last, top, top), version, version)?;
+    let numbers = (0, last - 1, top, top - 1);
+    let (table, row) = ("NumbersSpent next_table", "NumbersSpent next_row");
+    says_of_numbers(&rt, alloc, numbers, table, row)?;
+    says_of_numbers(&rt, alloc, (0, 1, 1, top - 1), column, "NoTable _")?;
+    let numbers = (u64::MAX, u64::MAX, 1, top);
+    says_of_numbers(&rt, alloc, numbers, version, version)
 }
 
 // What a run says of appends to T, one row for each letter, which is its id.
@@ -556,25 +523,21 @@ fn run_said(alloc: Global, base: &Plain, ids: &str) -> Result<String, AllocError
     }
 }
 
+// The ids of rows that are appended to the small base, and what comes of it.
+const RUNS: &str = " -> 2 | 3 2 3 1 | 1 T: Name=1 Note=2 <r1 1 5-5 1=A> <x 2 5-5>
+ab -> 4 | 5 2 3 1 | 1 T: Name=1 Note=2 <r1 1 5-5 1=A> <x 2 5-5> <a 3 7-7> <b 4 7-7>
+x -> 0 DuplicateRow x
+abxa -> 2 DuplicateRow x
+ab.a -> 2 BadName .
+";
+
 #[test]
 fn runs(rt: HostRuntime) -> Result<(), Fail> {
     let alloc = rt.alloc();
     let base = small_base(&rt, alloc)?;
-    for (ids, said) in [
-        (
-            "",
-            "2 | 3 2 3 1 | 1 T: Name=1 Note=2 <r1 1 5-5 1=A> <x 2 5-5>",
-        ),
-        (
-            "ab",
-            "4 | 5 2 3 1 | 1 T: Name=1 Note=2 <r1 1 5-5 1=A> <x 2 5-5> <a 3 7-7> <b 4 7-7>",
-        ),
-        ("x", "0 DuplicateRow x"),
-        ("abxa", "2 DuplicateRow x"),
-        ("ab.a", "2 BadName ."),
-    ] {
-        let found = run_said(alloc, &base, ids)?;
-        same(&rt, found.as_str(), said, ids);
+    for row in RUNS.lines() {
+        let (ids, said) = halves(row);
+        same(&rt, run_said(alloc, &base, ids)?.as_str(), said, ids);
     }
     Ok(())
 }

@@ -10,231 +10,79 @@ use serde_json::Value;
 use std::alloc::{AllocError, Global};
 use std::test::Fail;
 
-// Operations, and what comes of each.
-const OPERATIONS: [(&str, &str); 53] = [
-    // tables and columns are made
-    (
-        r#"{"op":"insert_table","table":"T","columns":[{"name":"Name","type":"text"},{"name":"Amount","type":"number","unit":"EUR"},{"name":"Day","type":"date"}]}"#,
-        r#"{"version":1}"#,
-    ),
-    (
-        r#"{"op":"insert_column","table":"T","column":{"name":"Tags","type":"multiple-select","options":["red","blue","red"]}}"#,
-        r#"{"version":2}"#,
-    ),
-    (
-        r#"{"op":"insert_column","table":"T","column":{"name":"State","type":"single-select"}}"#,
-        r#"{"version":3}"#,
-    ),
-    (
-        r#"{"op":"add_options","table":"T","column":"State","options":["open","closed","open"]}"#,
-        r#"{"version":4}"#,
-    ),
-    (
-        r#"{"op":"insert_column","table":"T","column":{"name":"Changed","type":"mtime"}}"#,
-        r#"{"version":5}"#,
-    ),
-    (
-        r#"{"op":"insert_table","table":"U","columns":[{"name":"Name","type":"single-select","options":["x"]}]}"#,
-        r#"{"version":6}"#,
-    ),
-    // rows are appended
-    (
-        r#"{"op":"append_rows","table":"T","rows":[{"_id":"a","Name":"A","Amount":1000000000000,"Day":"2024-02-29 00:00","Tags":["red"]},{"_id":"b","Tags":["red","blue","red"],"State":"open"},{}]}"#,
-        r#"{"version":7}"#,
-    ),
-    (
-        r#"{"op":"append_rows","table":"U","rows":[{"Name":"x","_id":"a"},{"_id":"d"}]}"#,
-        r#"{"version":8}"#,
-    ),
-    // no operation, and no table
-    (r#"{"op":"append_rows"}"#, r#"{"error":"BadOperation"}"#),
-    (
-        r#"{"op":"append_rows","table":"X","rows":[{"_id":""}]}"#,
-        r#"{"error":"NoTable","name":"X"}"#,
-    ),
-    (
-        r#"{"op":"rename_table","table":"t","to":"T"}"#,
-        r#"{"error":"NoTable","name":"t"}"#,
-    ),
-    (
-        r#"{"op":"delete_table","table":"X"}"#,
-        r#"{"error":"NoTable","name":"X"}"#,
-    ),
-    // no column
-    (
-        r#"{"op":"append_rows","table":"T","rows":[{"Name":7,"_id":"a"},{"b":1,"Zip":1}]}"#,
-        r#"{"error":"NoColumn","name":"Zip"}"#,
-    ),
-    (
-        r#"{"op":"modify_rows","table":"T","rows":[{"_id":"q","Zip":1}]}"#,
-        r#"{"error":"NoColumn","name":"Zip"}"#,
-    ),
-    (
-        r#"{"op":"rename_column","table":"T","column":"Zip","to":"Name"}"#,
-        r#"{"error":"NoColumn","name":"Zip"}"#,
-    ),
-    (
-        r#"{"op":"delete_column","table":"T","column":"Zip"}"#,
-        r#"{"error":"NoColumn","name":"Zip"}"#,
-    ),
-    (
-        r#"{"op":"add_options","table":"T","column":"Zip","options":[""]}"#,
-        r#"{"error":"NoColumn","name":"Zip"}"#,
-    ),
-    // no row
-    (
-        r#"{"op":"modify_rows","table":"T","rows":[{"_id":"a","Name":7},{"_id":"d"},{"_id":"q"}]}"#,
-        r#"{"error":"NoRow","id":"d"}"#,
-    ),
-    (
-        r#"{"op":"delete_rows","table":"T","ids":["a","a","r3","q"]}"#,
-        r#"{"error":"NoRow","id":"q"}"#,
-    ),
-    // bad names, options and ids
-    (
-        r#"{"op":"insert_table","table":"","columns":[{"name":"Name","type":"text"},{"name":"S","type":"single-select","options":["ok",""]},{"name":"_S","type":"text"}]}"#,
-        r#"{"error":"BadName","name":""}"#,
-    ),
-    (
-        r#"{"op":"insert_table","table":"_U","columns":[{"name":"Name","type":"text"}]}"#,
-        r#"{"error":"BadName","name":"_U"}"#,
-    ),
-    (
-        r#"{"op":"rename_table","table":"T","to":"a`b"}"#,
-        r#"{"error":"BadName","name":"a`b"}"#,
-    ),
-    (
-        r#"{"op":"rename_column","table":"T","column":"Name","to":"_id"}"#,
-        r#"{"error":"BadName","name":"_id"}"#,
-    ),
-    (
-        r#"{"op":"append_rows","table":"T","rows":[{"_id":"a","Amount":"x"},{"_id":"a.b"}]}"#,
-        r#"{"error":"BadName","name":"a.b"}"#,
-    ),
-    // names in use, a thing's own among them
-    (
-        r#"{"op":"insert_table","table":"T","columns":[{"name":"A","type":"text"},{"name":"B","type":"text"},{"name":"B","type":"text"},{"name":"A","type":"text"}]}"#,
-        r#"{"error":"NameTaken","name":"B"}"#,
-    ),
-    (
-        r#"{"op":"insert_table","table":"T","columns":[{"name":"T","type":"text"}]}"#,
-        r#"{"error":"NameTaken","name":"T"}"#,
-    ),
-    (
-        r#"{"op":"rename_table","table":"T","to":"T"}"#,
-        r#"{"error":"NameTaken","name":"T"}"#,
-    ),
-    (
-        r#"{"op":"insert_column","table":"T","column":{"name":"Day","type":"text"}}"#,
-        r#"{"error":"NameTaken","name":"Day"}"#,
-    ),
-    (
-        r#"{"op":"rename_column","table":"T","column":"Day","to":"Name"}"#,
-        r#"{"error":"NameTaken","name":"Name"}"#,
-    ),
-    // cells that their columns don't take
-    (
-        r#"{"op":"append_rows","table":"T","rows":[{"Amount":1000000000001}]}"#,
-        r#"{"column":"Amount","error":"BadCell","fault":"OutOfRange"}"#,
-    ),
-    (
-        r#"{"op":"append_rows","table":"T","rows":[{"Amount":18446744073709551615}]}"#,
-        r#"{"column":"Amount","error":"BadCell","fault":"OutOfRange"}"#,
-    ),
-    (
-        r#"{"op":"append_rows","table":"T","rows":[{"Amount":1.5}]}"#,
-        r#"{"column":"Amount","error":"BadCell","fault":"NotWhole"}"#,
-    ),
-    (
-        r#"{"op":"modify_rows","table":"T","rows":[{"_id":"a","Amount":1e2}]}"#,
-        r#"{"column":"Amount","error":"BadCell","fault":"NotWhole"}"#,
-    ),
-    (
-        r#"{"op":"append_rows","table":"T","rows":[{"Day":"2023-02-29"}]}"#,
-        r#"{"column":"Day","error":"BadCell","fault":"BadDate"}"#,
-    ),
-    (
-        r#"{"op":"modify_rows","table":"T","rows":[{"_id":"b","Tags":["red","green"]}]}"#,
-        r#"{"column":"Tags","error":"BadCell","fault":"NoOption"}"#,
-    ),
-    (
-        r#"{"op":"append_rows","table":"T","rows":[{"Changed":null}]}"#,
-        r#"{"column":"Changed","error":"BadCell","fault":"NotWritable"}"#,
-    ),
-    (
-        r#"{"op":"append_rows","table":"T","rows":[{"Name":false}]}"#,
-        r#"{"column":"Name","error":"BadCell","fault":"NotText"}"#,
-    ),
-    // ids twice
-    (
-        r#"{"op":"append_rows","table":"T","rows":[{"_id":"new"},{"_id":"b"},{"_id":"a"}]}"#,
-        r#"{"error":"DuplicateRow","id":"b"}"#,
-    ),
-    (
-        r#"{"op":"append_rows","table":"T","rows":[{"_id":"r7"},{}]}"#,
-        r#"{"error":"DuplicateRow","id":"r7"}"#,
-    ),
-    (
-        r#"{"op":"modify_rows","table":"T","rows":[{"_id":"a"},{"_id":"b"},{"_id":"b"},{"_id":"a"}]}"#,
-        r#"{"error":"DuplicateRow","id":"b"}"#,
-    ),
-    (
-        r#"{"op":"delete_rows","table":"T","ids":["a","a"]}"#,
-        r#"{"error":"DuplicateRow","id":"a"}"#,
-    ),
-    // columns of another kind, and the first one
-    (
-        r#"{"op":"add_options","table":"T","column":"Name","options":["ok"]}"#,
-        r#"{"column":"Name","error":"NotSelect"}"#,
-    ),
-    (
-        r#"{"op":"delete_column","table":"T","column":"Name"}"#,
-        r#"{"column":"Name","error":"FirstColumn"}"#,
-    ),
-    // rows and columns are changed and taken away, and nothing comes back
-    (
-        r#"{"op":"modify_rows","table":"T","rows":[{"_id":"r3","Name":"C","Tags":["blue"]},{"_id":"a","Amount":null,"State":"closed"}]}"#,
-        r#"{"version":9}"#,
-    ),
-    (
-        r#"{"op":"delete_column","table":"T","column":"Tags"}"#,
-        r#"{"version":10}"#,
-    ),
-    (
-        r#"{"op":"insert_column","table":"T","column":{"name":"Tags","type":"text"}}"#,
-        r#"{"version":11}"#,
-    ),
-    (
-        r#"{"op":"rename_column","table":"T","column":"Day","to":"Date"}"#,
-        r#"{"version":12}"#,
-    ),
-    (
-        r#"{"op":"delete_rows","table":"T","ids":["b"]}"#,
-        r#"{"version":13}"#,
-    ),
-    (
-        r#"{"op":"append_rows","table":"T","rows":[{"_id":"b"},{}]}"#,
-        r#"{"version":14}"#,
-    ),
-    (r#"{"op":"delete_table","table":"U"}"#, r#"{"version":15}"#),
-    (
-        r#"{"op":"rename_table","table":"T","to":"U"}"#,
-        r#"{"version":16}"#,
-    ),
-    // a link to no table, and a view that isn't there
-    (
-        r#"{"op":"insert_column","table":"U","column":{"name":"L","type":"link","other":"V","other_name":"M"}}"#,
-        r#"{"error":"NoTable","name":"V"}"#,
-    ),
-    (
-        r#"{"op":"delete_view","table":"U","view":"All"}"#,
-        r#"{"error":"NoView","name":"All"}"#,
-    ),
-];
+// Operations, and what comes of each. Tables, columns and rows are made, then each refusal comes in the order in which they
+// are looked for, and in the end rows and columns are changed and taken away, and nothing comes back.
+const OPERATIONS: &str =
+    r#"{"op":"insert_table","table":"T","columns":[{"name":"Name","type":"text"},{"name":"Amount","type":"number","unit":"EUR"},{"name":"Day","type":"date"}]} -> {"version":1}
+{"op":"insert_column","table":"T","column":{"name":"Tags","type":"multiple-select","options":["red","blue","red"]}} -> {"version":2}
+{"op":"insert_column","table":"T","column":{"name":"State","type":"single-select"}} -> {"version":3}
+{"op":"add_options","table":"T","column":"State","options":["open","closed","open"]} -> {"version":4}
+{"op":"insert_column","table":"T","column":{"name":"Changed","type":"mtime"}} -> {"version":5}
+{"op":"insert_table","table":"U","columns":[{"name":"Name","type":"single-select","options":["x"]}]} -> {"version":6}
+{"op":"append_rows","table":"T","rows":[{"_id":"a","Name":"A","Amount":1000000000000,"Day":"2024-02-29 00:00","Tags":["red"]},{"_id":"b","Tags":["red","blue","red"],"State":"open"},{}]} -> {"version":7}
+{"op":"append_rows","table":"U","rows":[{"Name":"x","_id":"a"},{"_id":"d"}]} -> {"version":8}
+{"op":"append_rows"} -> {"error":"BadOperation"}
+{"op":"append_rows","table":"X","rows":[{"_id":""}]} -> {"error":"NoTable","name":"X"}
+{"op":"rename_table","table":"t","to":"T"} -> {"error":"NoTable","name":"t"}
+{"op":"delete_table","table":"X"} -> {"error":"NoTable","name":"X"}
+{"op":"append_rows","table":"T","rows":[{"Name":7,"_id":"a"},{"b":1,"Zip":1}]} -> {"error":"NoColumn","name":"Zip"}
+{"op":"modify_rows","table":"T","rows":[{"_id":"q","Zip":1}]} -> {"error":"NoColumn","name":"Zip"}
+{"op":"rename_column","table":"T","column":"Zip","to":"Name"} -> {"error":"NoColumn","name":"Zip"}
+{"op":"delete_column","table":"T","column":"Zip"} -> {"error":"NoColumn","name":"Zip"}
+{"op":"add_options","table":"T","column":"Zip","options":[""]} -> {"error":"NoColumn","name":"Zip"}
+{"op":"modify_rows","table":"T","rows":[{"_id":"a","Name":7},{"_id":"d"},{"_id":"q"}]} -> {"error":"NoRow","id":"d"}
+{"op":"delete_rows","table":"T","ids":["a","a","r3","q"]} -> {"error":"NoRow","id":"q"}
+{"op":"insert_table","table":"","columns":[{"name":"Name","type":"text"},{"name":"S","type":"single-select","options":["ok",""]},{"name":"_S","type":"text"}]} -> {"error":"BadName","name":""}
+{"op":"insert_table","table":"_U","columns":[{"name":"Name","type":"text"}]} -> {"error":"BadName","name":"_U"}
+{"op":"rename_table","table":"T","to":"a`b"} -> {"error":"BadName","name":"a`b"}
+{"op":"rename_column","table":"T","column":"Name","to":"_id"} -> {"error":"BadName","name":"_id"}
+{"op":"append_rows","table":"T","rows":[{"_id":"a","Amount":"x"},{"_id":"a.b"}]} -> {"error":"BadName","name":"a.b"}
+{"op":"insert_table","table":"T","columns":[{"name":"A","type":"text"},{"name":"B","type":"text"},{"name":"B","type":"text"},{"name":"A","type":"text"}]} -> {"error":"NameTaken","name":"B"}
+{"op":"insert_table","table":"T","columns":[{"name":"T","type":"text"}]} -> {"error":"NameTaken","name":"T"}
+{"op":"rename_table","table":"T","to":"T"} -> {"error":"NameTaken","name":"T"}
+{"op":"insert_column","table":"T","column":{"name":"Day","type":"text"}} -> {"error":"NameTaken","name":"Day"}
+{"op":"rename_column","table":"T","column":"Day","to":"Name"} -> {"error":"NameTaken","name":"Name"}
+{"op":"append_rows","table":"T","rows":[{"Amount":1000000000001}]} -> {"column":"Amount","error":"BadCell","fault":"OutOfRange"}
+{"op":"append_rows","table":"T","rows":[{"Amount":18446744073709551615}]} -> {"column":"Amount","error":"BadCell","fault":"OutOfRange"}
+{"op":"append_rows","table":"T","rows":[{"Amount":1.5}]} -> {"column":"Amount","error":"BadCell","fault":"NotWhole"}
+{"op":"modify_rows","table":"T","rows":[{"_id":"a","Amount":1e2}]} -> {"column":"Amount","error":"BadCell","fault":"NotWhole"}
+{"op":"append_rows","table":"T","rows":[{"Day":"2023-02-29"}]} -> {"column":"Day","error":"BadCell","fault":"BadDate"}
+{"op":"modify_rows","table":"T","rows":[{"_id":"b","Tags":["red","green"]}]} -> {"column":"Tags","error":"BadCell","fault":"NoOption"}
+{"op":"append_rows","table":"T","rows":[{"Changed":null}]} -> {"column":"Changed","error":"BadCell","fault":"NotWritable"}
+{"op":"append_rows","table":"T","rows":[{"Name":false}]} -> {"column":"Name","error":"BadCell","fault":"NotText"}
+{"op":"append_rows","table":"T","rows":[{"_id":"new"},{"_id":"b"},{"_id":"a"}]} -> {"error":"DuplicateRow","id":"b"}
+{"op":"append_rows","table":"T","rows":[{"_id":"r7"},{}]} -> {"error":"DuplicateRow","id":"r7"}
+{"op":"modify_rows","table":"T","rows":[{"_id":"a"},{"_id":"b"},{"_id":"b"},{"_id":"a"}]} -> {"error":"DuplicateRow","id":"b"}
+{"op":"delete_rows","table":"T","ids":["a","a"]} -> {"error":"DuplicateRow","id":"a"}
+{"op":"add_options","table":"T","column":"Name","options":["ok"]} -> {"column":"Name","error":"NotSelect"}
+{"op":"delete_column","table":"T","column":"Name"} -> {"column":"Name","error":"FirstColumn"}
+{"op":"modify_rows","table":"T","rows":[{"_id":"r3","Name":"C","Tags":["blue"]},{"_id":"a","Amount":null,"State":"closed"}]} -> {"version":9}
+{"op":"delete_column","table":"T","column":"Tags"} -> {"version":10}
+{"op":"insert_column","table":"T","column":{"name":"Tags","type":"text"}} -> {"version":11}
+{"op":"rename_column","table":"T","column":"Day","to":"Date"} -> {"version":12}
+{"op":"delete_rows","table":"T","ids":["b"]} -> {"version":13}
+{"op":"append_rows","table":"T","rows":[{"_id":"b"},{}]} -> {"version":14}
+{"op":"delete_table","table":"U"} -> {"version":15}
+{"op":"rename_table","table":"T","to":"U"} -> {"version":16}
+{"op":"insert_column","table":"U","column":{"name":"L","type":"link","other":"V","other_name":"M"}} -> {"error":"NoTable","name":"V"}
+{"op":"delete_view","table":"U","view":"All"} -> {"error":"NoView","name":"All"}
+"#;
+
+// Makes a table of three columns.
+const TABLE: &str =
+    r#"{"op":"insert_table","table":"T","columns":[{"name":"Name","type":"text"},{"name":"Amount","type":"number","unit":"EUR"},{"name":"Day","type":"date"}]}"#;
 
 // The table that is left.
 const LEFT: &str =
     r#"{"columns":["Name","Amount","Date","State","Changed","Tags"],"rows":[["A",null,"2024-02-29","closed","1970-01-01",null],["C",null,null,null,"1970-01-01",null],[null,null,null,null,"1970-01-01",null],[null,null,null,null,"1970-01-01",null]]}"#;
+
+// What stands before the arrow of a row of a table, and what stands behind it.
+pub fn halves(row: &str) -> (&str, &str) {
+    match row.split_once(" -> ") {
+        Some(halves) => halves,
+        None => (row, ""),
+    }
+}
 
 // The replies to a script on a blank disk.
 pub fn replies_to(alloc: Global, script: String) -> Result<(Status, Vec<u8>), AllocError> {
@@ -265,7 +113,8 @@ fn each_operation_and_each_refusal(rt: HostRuntime) -> Result<(), Fail> {
     let alloc = rt.alloc();
     let mut script = String::new(alloc);
     let mut wanted = String::new(alloc);
-    for (op, reply) in OPERATIONS {
+    for row in OPERATIONS.lines() {
+        let (op, reply) = halves(row);
         add(&mut script, "op ", op)?;
         add(&mut wanted, "", reply)?;
     }
@@ -293,7 +142,8 @@ fn a_reopening_after_each_operation_changes_no_reply(rt: HostRuntime) -> Result<
     let mut script = String::new(alloc);
     let mut wanted = String::new(alloc);
     let mut version = 0;
-    for (op, reply) in OPERATIONS {
+    for row in OPERATIONS.lines() {
+        let (op, reply) = halves(row);
         add(&mut script, "op ", op)?;
         add(&mut script, "reopen", "")?;
         version = version_after(reply, version);
@@ -315,7 +165,8 @@ fn a_reopening_after_each_operation_changes_no_reply(rt: HostRuntime) -> Result<
 // The entries of the accepted operations.
 fn accepted(alloc: Global) -> Result<Entries, Fail> {
     let mut entries = Entries::new(alloc);
-    for (op, reply) in OPERATIONS {
+    for row in OPERATIONS.lines() {
+        let (op, reply) = halves(row);
         if reply.starts_with("{\"version\":") {
             entries.push(Entry {
                 op: op_of_json(alloc, op.as_bytes())?,
@@ -376,7 +227,7 @@ fn a_thousand_rows_are_taken_and_one_more_is_not(rt: HostRuntime) -> Result<(), 
         (1_000, "{\"error\":\"TooMany\",\"limit\":1000}\n"),
     ] {
         let mut script = String::new(alloc);
-        add(&mut script, "op ", OPERATIONS[0].0)?;
+        add(&mut script, "op ", TABLE)?;
         script.push_str(r#"op {"op":"append_rows","table":"T","rows":["#)?;
         for _ in 0..count {
             script.push_str("{},")?;
@@ -422,7 +273,7 @@ fn options_of_a_column_and_the_size_of_a_changed_row(rt: HostRuntime) -> Result<
     let more = r#"add_options","table":"T","column":"S","options":["#;
     let modify = r#"modify_rows","table":"T","rows":[{"_id":"a","L":""#;
     let mut script = String::new(alloc);
-    add(&mut script, "op ", OPERATIONS[0].0)?;
+    add(&mut script, "op ", TABLE)?;
     add_filled(&mut script, insert, options_of(alloc, 501)?.as_str(), "]}}")?;
     add_filled(&mut script, insert, options_of(alloc, 500)?.as_str(), "]}}")?;
     add_filled(&mut script, more, options_of(alloc, 500)?.as_str(), "]}")?;

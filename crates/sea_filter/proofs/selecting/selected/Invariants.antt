@@ -1,5 +1,5 @@
-use Rattle.std.proofs.Common.{◌≡◌, ◌++◌, map, drop, filter}
-use Rattle.sea_filter.specs.Selected.{meets, selected}
+use Rattle.std.proofs.Common.{◌≡◌, ◌++◌, drop}
+use Rattle.sea_filter.specs.Selected.{selected}
 use Rattle.sea_filter.proofs.selecting.selected.Given as goal
 
 -- what is selected so far and of what is left is selected of all
