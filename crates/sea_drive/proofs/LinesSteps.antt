@@ -1,9 +1,9 @@
 -- A turn of the reading of a line: what was gathered, before and after it.
-use Rattle.std.proofs.Common.{◌≡◌, ℕ, ◌+◌, ◌<◌, ◌≤◌, ◌⊎◌, min, List, [], ◌∷◌, ◌++◌, length, length-append, Option, Some, None, IfSome, option_map, sym, ap, ◌∙◌, subst, append_assoc, append-nil, arith, inl, inr, ⊎_elim}
-use Rattle.std.specs.List.{position_or_len, before_first, after_first}
+use Rattle.std.proofs.Common.{◌≡◌, ℕ, ◌+◌, ◌<◌, ◌≤◌, ◌⊎◌, min, List, [], ◌∷◌, ◌++◌, length, length-append, Bool, false, ◌||◌, Option, Some, None, IfSome, option_map, refl, sym, ap, ◌∙◌, subst, append_assoc, append-nil, arith, inl, inr, ⊎_elim}
+use Rattle.std.specs.List.{position_or_len, before_first, after_first, list_any}
 use Rattle.std.specs.Io.KnownBytes.{Consumes, Keeps, IsAtEnd}
 use Rattle.std.proofs.KnownBytes.{Consumes-trans, Consumes-kept}
-use Rattle.sea_drive.specs.Lines.{Place, ReadsLine, ReadsTold, TotalTold, KeepsTotal, PassesLimit, line_limit, input_limit, lines_of}
+use Rattle.sea_drive.specs.Lines.{Place, ReadsLine, ReadsTold, TotalTold, KeepsTotal, PassesLimit, BreaksOff, line_limit, input_limit, lines_of}
 use Rattle.sea_drive.proofs.LinesOf.{IsPlain, is_newline, length-before_first, IsPlain-before_first, IsPlain-append, split_ended, before_none, after_none, position-plain, position-front, lines_of-ended, lines_of-last}
 
 -- a reader that began a line at `start` stands at `now`, and `line` is what it has of the line
@@ -84,6 +84,19 @@ passes (Some rest) (Some more) begun read bytes line e count plain over =
 pub PassesLimit-piece : (start : Place) (read : ℕ) (left : Option (List ℕ)) (bytes line : List ℕ) → Gathers start (place read bytes left) line
     → (line_limit < length line + position_or_len is_newline bytes) ⊎ (input_limit < read + min (position_or_len is_newline bytes + 1) (length bytes)) → IfSome start.rest (λ rest. PassesLimit start.read rest)
 PassesLimit-piece start read left bytes line h over = passes start.rest left start.read read bytes line h.bytes h.count h.plain over
+
+no_newline : (line : List ℕ) → IsPlain line → list_any is_newline line ≡ false
+no_newline [] plain = refl
+no_newline (byte ∷ line) plain = ap (λ (is : Bool). is || list_any is_newline line) plain.0 ∙ no_newline line plain.1
+
+broken_off : (all left : Option (List ℕ)) (bytes line : List ℕ) → Consumes all (option_map (λ more. bytes ++ more) left) line → bytes ≡ [] → IsPlain line → BreaksOff all left
+broken_off None left bytes line e none plain = tt
+broken_off (Some rest) None bytes line e none plain = absurd e
+broken_off (Some rest) (Some more) bytes line e none plain = (line, e ∙ ap (λ b. line ++ (b ++ more)) none, no_newline line plain)
+
+-- where nothing is unread, the piece of the line is all that was taken
+pub BreaksOff-gathered : (start : Place) (read : ℕ) (left : Option (List ℕ)) (bytes line : List ℕ) → Gathers start (place read bytes left) line → bytes ≡ [] → BreaksOff start.rest left
+BreaksOff-gathered start read left bytes line h none = broken_off start.rest left bytes line h.bytes none h.plain
 
 ended_told : (all left : Option (List ℕ)) (begun read : ℕ) (line : List ℕ) → Consumes all left (line ++ 10 ∷ []) → read ≡ begun + length line + 1 → IsPlain line → ReadsTold begun read all left (Some line)
 ended_told None left begun read line e count plain = tt

@@ -12,7 +12,7 @@ use Rattle.sea_core.specs.declared.fault.StartFault.{StartFault}
 use Rattle.sea_core.specs.declared.fault.StartFault.TheVariants as start
 use Rattle.sea_core.specs.Sound.{IsSound, StandsForCore}
 use Rattle.sea_core.specs.Stands.{StandsFor, KeepsStanding}
-use Rattle.sea_drive.specs.Lines.{Place, lines_of, line_limit, input_limit, PassesLimit, HasRead, HasReadTold, HasReadTo, ReadsTold, ReadsLine}
+use Rattle.sea_drive.specs.Lines.{Place, lines_of, line_limit, input_limit, PassesLimit, BreaksOff, HasRead, HasReadTold, HasReadTo, ReadsTold, ReadsLine}
 use Rattle.sea_drive.specs.Outcome.{start_outcome, is_disk_fault}
 use Rattle.sea_drive.specs.Play.{replies, met_want, met_fault, last_core, Run, Script, RunsTo, StandsForSome, StandsInScript, IsPlayed, IsWritten, IsCut, IsFinished, IsRefused, SaysOf, Ends, Goes, WritesPiece, end_status, fault_status, start_status}
 use Rattle.sea_drive.specs.Reply.{reply_line}
@@ -276,14 +276,20 @@ module _ {D : Type 0} (clock : Option ℤ) (told : Type 0) (shows : D → Shown)
         by_flags false false done wants faults = (done, sym faults, sym wants)
 
     -- the next line can't be read
-    pub turn_fails : (why : ReadFault) (left : Option (List ℕ)) → (why ≡ fault.TooLong → IfSome old.rest (λ rest. PassesLimit old.read rest)) → Ends (fault_status why) clock told shows limits disk core.disk input left taken given
-    turn_fails fault.Memory left long =
+    pub turn_fails : (why : ReadFault) (left : Option (List ℕ)) → (why ≡ fault.TooLong → IfSome old.rest (λ rest. PassesLimit old.read rest)) → (why ≡ fault.Source → BreaksOff old.rest left)
+        → Ends (fault_status why) clock told shows limits disk core.disk input left taken given
+    turn_fails fault.Memory left long broken =
         let (more, split) = behind input old.rest so_far.lines old.read so_far.read in
         inl (ends_here more, played_so_far more split, inr (inr (record { earlier = so_far.results; final = []; one = omega arith; all = sym (append-nil so_far.results); count = 0; written = rw (append-nil (replies so_far.results)) so_far.written })))
-    turn_fails fault.Source left long =
+    turn_fails fault.Source left long broken =
         let (more, split) = behind input old.rest so_far.lines old.read so_far.read in
-        inl (ends_here more, played_so_far more split, (so_far.written, refl))
-    turn_fails fault.TooLong left long =
+        inl (ends_here more, played_so_far more split, (so_far.written, refl, breaks input old.rest so_far.read (broken refl)))
+      where
+        breaks : (from rest : Option (List ℕ)) → HasReadTold from so_far.lines old.read rest → BreaksOff rest left → IfSome from (λ bytes. (read : ℕ) × (behind : List ℕ) × HasRead bytes so_far.lines read behind × BreaksOff (Some behind) left)
+        breaks None rest h off = tt
+        breaks (Some _) None h off = absurd h
+        breaks (Some _) (Some bytes) h off = (old.read, bytes, h, off)
+    turn_fails fault.TooLong left long broken =
         let (more, split) = behind input old.rest so_far.lines old.read so_far.read in
         inl (ends_here more, played_so_far more split, (so_far.written, refl, passes input old.rest so_far.read (long refl)))
       where

@@ -1,6 +1,6 @@
 -- The lines of an input, and where a reader of lines stands in it.
-use Rattle.std.specs.Prelude.{◌≡◌, ℕ, ◌+◌, ◌<◌, ◌≤◌, ◌==◌, ◌⊎◌, List, [], ◌∷◌, ◌++◌, length, if◌then◌else◌, Option, Some, None, All}
-use Rattle.std.specs.List.{before_first}
+use Rattle.std.specs.Prelude.{◌≡◌, ℕ, ◌+◌, ◌<◌, ◌≤◌, ◌==◌, ◌⊎◌, List, [], ◌∷◌, ◌++◌, length, if◌then◌else◌, false, Option, Some, None, All}
+use Rattle.std.specs.List.{before_first, list_any}
 
 -- a byte before the first of some lines
 abbrev pub onto_first : ℕ → List (List ℕ) → List (List ℕ)
@@ -71,6 +71,12 @@ HasReadTold (Some input) lines read (Some rest) = HasRead input lines read rest
 -- the same at a place
 abbrev pub HasReadTo : Option (List ℕ) → List (List ℕ) → Place → Type 0
 HasReadTo input lines place = HasReadTold input lines place.read place.rest
+
+-- of these bytes a part of a line was taken, with no newline in it, and those are left; what was told stays told
+abbrev pub BreaksOff : Option (List ℕ) → Option (List ℕ) → Type 0
+BreaksOff None left = Unit {0}
+BreaksOff (Some rest) None = ⊥
+BreaksOff (Some rest) (Some left) = (piece : List ℕ) × (rest ≡ piece ++ left) × (list_any (λ byte. byte == 10) piece ≡ false)
 
 -- the bytes that were read and those behind them are as many as before; what was told stays told
 abbrev pub TotalTold : ℕ → ℕ → Option (List ℕ) → Option (List ℕ) → Type 0

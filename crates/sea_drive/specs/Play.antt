@@ -12,7 +12,7 @@ use Rattle.sea_core.specs.declared.fault.StartFault.{StartFault}
 use Rattle.sea_core.specs.declared.fault.StartFault.TheVariants as start
 use Rattle.sea_core.specs.Sound.{IsSound, StandsForCore}
 use Rattle.sea_core.specs.Stands.{KeepsStanding}
-use Rattle.sea_drive.specs.Lines.{Place, lines_of, line_limit, IsWithinLimits, PassesLimit, HasRead, HasReadTo}
+use Rattle.sea_drive.specs.Lines.{Place, lines_of, line_limit, IsWithinLimits, PassesLimit, HasRead, HasReadTo, BreaksOff}
 use Rattle.sea_drive.specs.Outcome.{start_outcome, is_disk_fault}
 use Rattle.sea_drive.specs.Reply.{reply_line}
 use Rattle.sea_drive.specs.Steps.{Starts, Refuses, LineStep}
@@ -116,6 +116,10 @@ IsRefused fault taken given script = (script.refusal ≡ Some fault) × IsWritte
 abbrev pub IsTooLong : {D : Type 0} → Option (List ℕ) → Script D → Type 0
 IsTooLong input script = IfSome input (λ bytes. (read : ℕ) × (rest : List ℕ) × HasRead bytes script.lines read rest × PassesLimit read rest)
 
+-- each line of which the newline was taken was played, and of the next one a part was taken
+abbrev pub IsBrokenOff : {D : Type 0} → Option (List ℕ) → Option (List ℕ) → Script D → Type 0
+IsBrokenOff input left script = IfSome input (λ bytes. (read : ℕ) × (rest : List ℕ) × HasRead bytes script.lines read rest × BreaksOff (Some rest) left)
+
 -- what a status says of the script
 abbrev pub SaysOf : {D : Type 0} → Status → Option (List ℕ) → Option (List ℕ) → Option (List ℕ) → Option (List ℕ) → Script D → Type 0
 SaysOf Done input left taken given script = IsFinished input left taken given script × (met_fault script.results ≡ false) × (met_want script.results ≡ false)
@@ -124,7 +128,7 @@ SaysOf NotABase input left taken given script = IsRefused start.NotABase taken g
 SaysOf Memory input left taken given script =
     (IsFinished input left taken given script × (met_fault script.results ≡ false) × (met_want script.results ≡ true))
     ⊎ (IsRefused start.Memory taken given script ⊎ IsCut taken given script)
-SaysOf SourceFault input left taken given script = IsWritten taken given script × (script.refusal ≡ None)
+SaysOf SourceFault input left taken given script = IsWritten taken given script × (script.refusal ≡ None) × IsBrokenOff input left script
 SaysOf SinkFault input left taken given script = IsCut taken given script
 SaysOf TooLong input left taken given script = IsWritten taken given script × (script.refusal ≡ None) × IsTooLong input script
 SaysOf Usage input left taken given script = ⊥

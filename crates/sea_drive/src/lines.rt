@@ -93,7 +93,7 @@ fn refill<S: Source>(source: &mut S, buffer: &mut [u8], room: usize) -> Result<u
 }
 
 impl LineReader {
-    ghost use Rattle.sea_drive.specs.Lines.{KeepsTotal, PassesLimit, ReadsLine};
+    ghost use Rattle.sea_drive.specs.Lines.{BreaksOff, KeepsTotal, PassesLimit, ReadsLine};
     ghost use Rattle.sea_drive.specs.Reader.{place_of, unread};
     ghost use Rattle.std.specs.Io.KnownBytes.{IsAtEnd, Keeps};
     ghost use Rattle.std.specs.List.{after_first, before_first};
@@ -115,7 +115,8 @@ impl LineReader {
     /// The next line without its newline, or `None` at the end of the input. A carriage return before the newline
     /// stays in the line. A last line without newline counts. Each line has at most 1,048,576 bytes, and the lines
     /// that were read at most 4,294,967,296 with their newlines: the answer is `TooLong` exactly where the next line
-    /// would pass one of these. After a fault a part of the next line may have been read.
+    /// would pass one of these. After a fault a part of the next line may have been read: where the source failed, no
+    /// newline was taken with it.
     pub fn next_line<S: Source>(
         &mut self,
         alloc: Global,
@@ -126,6 +127,7 @@ impl LineReader {
         ensures progress { IfOk result (λ line. OnSome line (self.old.read < self.new.read)) }
         ensures within { OnOk result (IfSome (place_of self.old (S.left source.old)).rest (λ rest. ¬ PassesLimit self.old.read rest)) }
         ensures too_long { result ≡ Err ReadFault.TooLong → IfSome (place_of self.old (S.left source.old)).rest (λ rest. PassesLimit self.old.read rest) }
+        ensures broken { result ≡ Err ReadFault.Source → BreaksOff (place_of self.old (S.left source.old)).rest (S.left source.new) }
         ensures failed { result ≡ Err ReadFault.Source → Rose (S.faults source.old) (S.faults source.new) }
         ensures kept { result ≢ Err ReadFault.Source → S.faults source.new ≡ S.faults source.old }
         ensures later { S.faults source.old ≤ S.faults source.new }
@@ -150,6 +152,7 @@ impl LineReader {
         ensures more { result ≡ Ok true → self.new.from < self.new.to }
         ensures end { result ≡ Ok false → IsAtEnd (place_of self.old (S.left source.old)).rest }
         ensures fault { IfErr result (λ fault. fault ≡ ReadFault.Source) }
+        ensures none { IfErr result (λ _. unread self.new ≡ []) }
         ensures cause { HasCause (S.faults source.old) (S.faults source.new) result }
     {
         if self.from < self.to {

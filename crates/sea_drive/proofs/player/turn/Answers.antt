@@ -28,5 +28,5 @@ returns-in-Ok-None-clause-turns g c = λ limits disk input taken so_far.
 pub returns-in-Err-clause-turns : goal.returns-in-Err-clause-turns
 returns-in-Err-clause-turns g c = λ limits disk input taken so_far.
     let left = g.S.Source.left c.next_line.new.source in
-    let fails = turn_fails (g.C.Clock.told c.args.clock.now) g.D.Disk.told g.D.Disk.shows g.met.D.Disk.sound limits disk input taken _ _ c.args.player.core c.args.player.wanted c.args.player.faulted so_far c.in-Err.fault left (λ long. c.in-Err.ensures.too_long (ap Err long)) in
+    let fails = turn_fails (g.C.Clock.told c.args.clock.now) g.D.Disk.told g.D.Disk.shows g.met.D.Disk.sound limits disk input taken _ _ c.args.player.core c.args.player.wanted c.args.player.faulted so_far c.in-Err.fault left (λ long. c.in-Err.ensures.too_long (ap Err long)) (λ source. c.in-Err.ensures.broken (ap Err source)) in
     ends_as (g.C.Clock.told c.args.clock.now) g.D.Disk.told g.D.Disk.shows limits disk _ _ _ _ input left taken (g.K.Sink.taken c.args.sink.now) (sym c.fault_status.ensures) (sym c.finish-in-Err.ensures) fails

@@ -2,7 +2,7 @@ use Rattle.std.proofs.Common.{arith, ltb-true, ltb-false, Ok, ap, sym, ◌∙◌
 use Rattle.std.proofs.lemmas.Bool.{eqb-false}
 use Rattle.std.proofs.lemmas.Result.{err_from_is_err_and}
 use Rattle.sea_drive.specs.Reader.{place_of, unread}
-use Rattle.sea_drive.proofs.LinesSteps.{Gathers-kept, Gathers-piece, Ends-piece, PassesLimit-piece, ReadsLine-ended, ReadsLine-last, IsWithin-ended}
+use Rattle.sea_drive.proofs.LinesSteps.{Gathers-kept, Gathers-piece, Ends-piece, PassesLimit-piece, BreaksOff-gathered, ReadsLine-ended, ReadsLine-last, IsWithin-ended}
 use Rattle.sea_drive.proofs.lines.LineReader.next_line.Goals as goal
 
 pub returns-in_err-take_piece-clause-too_long : goal.returns-in_err-take_piece-clause-too_long
@@ -15,6 +15,15 @@ returns-in_err-take_piece-clause-too_long g c = λ e.
     let answer = err_from_is_err_and c.from_residual-in_err-take_piece.result c.from_residual-in_err-take_piece.ensures.1 in
     let over = c.take_piece.ensures.too_long (cc (c.in_err-take_piece.was, answer.1, answer.2, e)) in
     PassesLimit-piece start reader.read left (unread reader) c.loop-line.line.items kept over
+
+pub returns-in_err-fetch-clause-broken : goal.returns-in_err-fetch-clause-broken
+returns-in_err-fetch-clause-broken g c = λ e.
+    let start = place_of c.args.self.now (g.S.Source.left c.args.source.now) in
+    let before = place_of c.loop-line.self (g.S.Source.left c.loop-line.source) in
+    let left = g.S.Source.left c.fetch.new.source in
+    let reader = c.fetch.new.self in
+    let kept = Gathers-kept start before (place_of reader left) c.loop-line.line.items c.loop-line.invariant.gathered c.fetch.ensures.bytes c.fetch.ensures.read in
+    BreaksOff-gathered start reader.read left (unread reader) c.loop-line.line.items kept c.in_err-fetch.ensures.none
 
 pub returns-then-branch-2-clause-line : goal.returns-then-branch-2-clause-line
 returns-then-branch-2-clause-line g c =
