@@ -9,7 +9,7 @@ use Rattle.sea_disk.specs.Composition.{leaves_weaker, leaves_then, rests_leaves,
 use Rattle.sea_log.specs.Records.{HoldsList}
 use Rattle.sea_plain.specs.declared.base.Plain.{Plain}
 use Rattle.sea_core.specs.Stands.{IsClosedBase, StandsFor, StandAlike, KeepsStanding}
-use Rattle.sea_core.specs.Steps.{Keeps, IsAllSettled}
+use Rattle.sea_core.specs.Steps.{ArchStays, Keeps, IsAllSettled}
 
 -- ---- which file a file is
 
@@ -82,6 +82,17 @@ alike_if_same one other same = record {
 image_keeps : (disk : Shown) (files : Files) → IsImage disk files → KeepsStanding disk files
 image_keeps disk files image = (files, image, alike_if_same files files (λ file. refl))
 
+-- ---- calls that leave `arch` alone
+
+arch_then : {old mid new : Shown} → ArchStays old mid → ArchStays mid new → ArchStays old new
+arch_then first second = record { seen = second.seen ∙ first.seen; image = λ bytes now. first.image bytes (second.image bytes now) }
+
+pub arch_rests : {old new : Shown} → Rests old new → ArchStays old new
+arch_rests rests = record { seen = rests.seen Arch; image = rests.image Arch }
+
+pub arch_others : {file : File} {old new : Shown} → Arch ≢ file → OthersStay file old new → ArchStays old new
+arch_others apart others = record { seen = others.seen Arch apart; image = λ bytes now. others.image Arch bytes apart now }
+
 -- ---- runs of calls that keep what files stand for
 
 -- what was kept before is kept
@@ -96,6 +107,7 @@ keeps_then first second = record {
   leaves = leaves_then first.leaves (leaves_weaker second.leaves (kept_through first));
   image = λ files now. kept_through first files (second.image files now);
   alike = alike_then first.alike second.alike;
+  arch = arch_then first.arch second.arch;
 }
 
 -- a call that writes nothing
@@ -104,6 +116,7 @@ keeps_rests {old = old} {new = new} disk rests = record {
   leaves = leaves_weaker (rests_leaves disk rests) (image_keeps old);
   image = λ files now. image_keeps old files (λ file. rests.image file (files file) (now file));
   alike = alike_if_same old.seen new.seen (λ file. sym (rests.seen file));
+  arch = arch_rests rests;
 }
 
 -- a sync
@@ -112,6 +125,10 @@ keeps_synced {file = file} {old = old} {new = new} disk turns same = record {
   leaves = works_leaves (turns_works disk turns) (λ files here others. image_keeps old files (at_each file (λ each. old.image each (files each)) (was (files file) here) others));
   image = λ files now. image_keeps old files (at_each file (λ each. old.image each (files each)) (was (files file) (inr (turns.follows (files file) (now file)))) (λ other differs. turns.others.image other (files other) differs (now other)));
   alike = alike_if_same old.seen new.seen (at_each file (λ each. old.seen each ≡ new.seen each) (sym same) (λ other differs. sym (turns.others.seen other differs)));
+  arch = record {
+    seen = at_each file (λ each. new.seen each ≡ old.seen each) same (λ other differs. turns.others.seen other differs) Arch;
+    image = at_each file (λ each. (bytes : List ℕ) → new.image each bytes → old.image each bytes) (λ bytes now. was bytes (inr (turns.follows bytes now))) (λ other differs bytes now. turns.others.image other bytes differs now) Arch;
+  };
 }
   where
     was : (bytes : List ℕ) → old.image file bytes ⊎ After file (λ was now. now ≡ was) old bytes → old.image file bytes
@@ -119,11 +136,12 @@ keeps_synced {file = file} {old = old} {new = new} disk turns same = record {
     was bytes (inr (before, image, e)) = subst (λ now. old.image file now) (sym e) image
 
 -- a run on one file of a settled disk, after which the file's bytes mean what they meant
-pub keeps_works : {file : File} {P : List ℕ → Type 0} {old new : Shown} → IsDisk old → IsDisk new → IsAllSettled old → Works file P old new → ((bytes : List ℕ) → P bytes → MeansAsWell file (old.seen file) bytes) → ((bytes : List ℕ) → P bytes → MeansAsWell file bytes (old.seen file)) → Keeps old new
-keeps_works {file = file} {P = P} {old = old} {new = new} disk after settled works means meant = record {
+pub keeps_works : {file : File} {P : List ℕ → Type 0} {old new : Shown} → IsDisk old → IsDisk new → IsAllSettled old → Arch ≢ file → Works file P old new → ((bytes : List ℕ) → P bytes → MeansAsWell file (old.seen file) bytes) → ((bytes : List ℕ) → P bytes → MeansAsWell file bytes (old.seen file)) → Keeps old new
+keeps_works {file = file} {P = P} {old = old} {new = new} disk after settled apart works means meant = record {
   leaves = works_leaves works keeps;
   image = λ files now. keeps files (works.now (files file) (now file)) (λ other differs. works.others.image other (files other) differs (now other));
   alike = alike_but_one file old.seen new.seen (means (new.seen file) shown) (meant (new.seen file) shown) (λ other differs. sym (works.others.seen other differs));
+  arch = arch_others apart works.others;
 }
   where
     shown : P (new.seen file)

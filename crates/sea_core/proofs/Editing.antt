@@ -24,8 +24,8 @@ use Rattle.sea_core.specs.declared.kept.Core.{Core}
 use Rattle.sea_core.specs.declared.kept.Doubt.{Doubt}
 use Rattle.sea_core.specs.Causes.{EditCause}
 use Rattle.sea_core.specs.Edits.{Edited}
-use Rattle.sea_core.specs.Keeping.{Kept, StandsForEither}
-use Rattle.sea_core.specs.Sound.{IsReady, StandsForOneOf, IsSoundAs, StandsWithOrWithout}
+use Rattle.sea_core.specs.Keeping.{Kept}
+use Rattle.sea_core.specs.Sound.{IsReady, StandsForEither, StandsForOneOf, IsSoundAs, StandsWithOrWithout}
 use Rattle.sea_core.specs.Stands.{StandsFor}
 use Rattle.sea_core.specs.Taking.{TakesRecord, IsRefusedBy, IsRecordOf, IsTooLarge}
 use Rattle.sea_core.proofs.Making.{version_rises, makes_push}

@@ -31,9 +31,13 @@ closed_means file one other (inr same) closed = subst (λ it. MeansAsWell it one
 torn_is_short : (file : File) (disk : Shown) → IsSettled disk file → length (disk.seen file) < 17 → (bytes : List ℕ) → After file (Torn 0 1) disk bytes → length bytes < 17
 torn_is_short file disk settled short bytes (before, image, torn) = omega (arith, short, torn.no_longer, ap length (settled before image))
 
+base_is_not_arch : {file : File} → IsBaseFile file → Arch ≢ file
+base_is_not_arch (inl base) is = cc (base, is)
+base_is_not_arch (inr base) is = cc (base, is)
+
 pub base_gate_keeps : {file : File} {old new : Shown} → IsBaseFile file → IsDisk old → IsDisk new → IsAllSettled old → length (old.seen file) < 17 → Works file (After file (Torn 0 1) old) old new → Keeps old new
 base_gate_keeps {file = file} {old = old} is disk after settled short works =
-    keeps_works disk after settled works
+    keeps_works disk after settled (base_is_not_arch is) works
     (λ bytes torn. closed_means file (old.seen file) bytes is (inl (torn_is_short file old (settled file) short bytes torn)))
     (λ bytes torn. closed_means file bytes (old.seen file) is (inl short))
 
@@ -45,7 +49,7 @@ laid_front old =
 
 -- the gate is laid
 pub base_gate_laid : (old new : List ℕ) → new ≡ overlaid old 0 (0 ∷ []) → HasBaseGate new
-base_gate_laid old new same = subst HasBaseGate (sym (same ∙ laid_front old)) (inr (omega arith, λ is. cc))
+base_gate_laid old new same = subst HasBaseGate (sym (same ∙ laid_front old)) (inr (omega arith, refl))
 
 -- reads leave the gates
 pub gates_rest : {old new : Shown} → Rests old new → AreGatesLaid old.seen → AreGatesLaid new.seen
@@ -67,6 +71,10 @@ base_is_not_log1 (inr base) is = cc (base, is)
 
 -- ---- logs
 
+log_is_not_arch : {file : File} → IsLogFile file → Arch ≢ file
+log_is_not_arch (inl log) is = cc (log, is)
+log_is_not_arch (inr log) is = cc (log, is)
+
 -- logs without records mean the same
 empty_means : HoldsOneList → (file : File) (one other : List ℕ) → IsLogFile file → HoldsList [] one → HoldsList [] other → MeansAsWell file one other
 empty_means unique file one other is none empty = elim is [ inl same ↦ subst (λ it. MeansAsWell it one other) (sym same) holds | inr same ↦ subst (λ it. MeansAsWell it one other) (sym same) holds ]
@@ -84,6 +92,6 @@ images_are_short file disk settled short bytes image = subst (λ it. length it <
 
 pub log_gate_keeps : HoldsOneList → {file : File} {old new : Shown} → IsLogFile file → IsDisk old → IsDisk new → IsAllSettled old → length (old.seen file) < 6 → Works file (HoldsList []) old new → Keeps old new
 log_gate_keeps unique {file = file} {old = old} is disk after settled short works =
-    keeps_works disk after settled works
+    keeps_works disk after settled (log_is_not_arch is) works
     (λ bytes empty. empty_means unique file (old.seen file) bytes is (short_is_empty (old.seen file) short) empty)
     (λ bytes empty. empty_means unique file bytes (old.seen file) is empty (short_is_empty (old.seen file) short))

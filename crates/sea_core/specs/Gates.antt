@@ -1,5 +1,5 @@
 -- The first gates of the files, which a start lays where they are missing.
-use Rattle.std.specs.Prelude.{◌≢◌, ◌⊎◌, ℕ, ◌≤◌, List, [], length, slice_index}
+use Rattle.std.specs.Prelude.{◌≡◌, ◌⊎◌, ℕ, ◌≤◌, List, [], length, slice_index}
 use Rattle.sea_disk.specs.declared.file.File.TheVariants.{Base0, Base1, Log0, Log1}
 use Rattle.sea_disk.specs.Shown.{Files}
 use Rattle.sea_log.specs.Records.{IsClosedAt}
@@ -8,9 +8,9 @@ use Rattle.sea_log.specs.Records.{IsClosedAt}
 abbrev pub HasGate : List ℕ → Type 0
 HasGate bytes = (6 ≤ length bytes) ⊎ IsClosedAt bytes [] 0
 
--- the same of a base file, whose gate counts from 17 bytes on
+-- the same of a base file, whose gate counts from 17 bytes on; the gate that is laid is a 0
 abbrev pub HasBaseGate : List ℕ → Type 0
-HasBaseGate bytes = (17 ≤ length bytes) ⊎ ((1 ≤ length bytes) × (slice_index bytes 0 ≢ 1))
+HasBaseGate bytes = (17 ≤ length bytes) ⊎ ((1 ≤ length bytes) × (slice_index bytes 0 ≡ 0))
 
 -- each base file and each log has its first gate
 pub record AreGatesLaid (files : Files) : Type 0 where

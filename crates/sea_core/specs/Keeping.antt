@@ -1,13 +1,11 @@
 -- What an edit makes of a core once its record is made, for private clauses.
-use Rattle.std.specs.Prelude.{◌≡◌, ◌⊎◌, ℕ, ◌<◌, ◌≤◌, List, Some, None, Result, Ok, Err}
-use Rattle.sea_disk.specs.Shown.{Files}
+use Rattle.std.specs.Prelude.{◌≡◌, ℕ, ◌<◌, ◌≤◌, List, Some, None, Result, Ok, Err}
 use Rattle.sea_log.specs.Records.{size_with}
 use Rattle.sea_plain.specs.declared.base.Plain.{Plain}
 use Rattle.sea_core.specs.declared.fault.CoreFault.{CoreFault}
 use Rattle.sea_core.specs.declared.fault.CoreFault.TheVariants as core
 use Rattle.sea_core.specs.declared.kept.Core.{Core}
 use Rattle.sea_core.specs.declared.kept.Doubt.{Doubt}
-use Rattle.sea_core.specs.Stands.{StandsFor}
 
 -- each answer with what it leaves
 abbrev pub Kept : {D : Type 0} → Core D → Core D → Plain → List ℕ → Result ℕ CoreFault → Type 0
@@ -23,7 +21,3 @@ Kept old new next payload (Err (core.Op _)) = ⊥
 Kept old new next payload (Err (core.BaseFailed _)) = ⊥
 Kept old new next payload (Err (core.FeedGone _)) = ⊥
 Kept old new next payload (Err (core.FeedAhead _)) = ⊥
-
--- the files stand for one of two bases
-abbrev pub StandsForEither : Plain → Plain → Files → Type 0
-StandsForEither base next files = StandsFor base files ⊎ StandsFor next files

@@ -20,10 +20,14 @@ pub record IsReady (disk : Shown) (base : Plain) (end : ℕ) : Type 0 where
   pub log : IsClosedInImages disk Log0 payloads end
   pub makes : Makes payloads base
 
+-- the files stand for one of two bases
+abbrev pub StandsForEither : Plain → Plain → Files → Type 0
+StandsForEither base next files = StandsFor base files ⊎ StandsFor next files
+
 -- the files stand for the base, or for the one with the entry in doubt
 abbrev pub StandsForOneOf : Plain → Option Doubt → Files → Type 0
 StandsForOneOf base None files = StandsFor base files
-StandsForOneOf base (Some doubt) files = StandsFor base files ⊎ StandsFor doubt.base files
+StandsForOneOf base (Some doubt) files = StandsForEither base doubt.base files
 
 abbrev pub StandsForCore : {D : Type 0} → Core D → Files → Type 0
 StandsForCore core files = StandsForOneOf core.base core.doubt files
@@ -31,7 +35,7 @@ StandsForCore core files = StandsForOneOf core.base core.doubt files
 -- without an entry in doubt the disk is ready for the next record; with one, whatever a stop leaves stands for the base or for the one with that entry
 abbrev pub IsSoundAs : Shown → Plain → Option Doubt → ℕ → Type 0
 IsSoundAs disk base None end = IsReady disk base end
-IsSoundAs disk base (Some doubt) end = (files : Files) → IsImage disk files → StandsFor base files ⊎ StandsFor doubt.base files
+IsSoundAs disk base (Some doubt) end = (files : Files) → IsImage disk files → StandsForEither base doubt.base files
 
 abbrev pub IsSound : {D : Type 0} → (D → Shown) → Core D → Type 0
 IsSound shows core = IsSoundAs (shows core.disk) core.base core.doubt core.end

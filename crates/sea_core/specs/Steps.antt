@@ -1,7 +1,7 @@
 -- What the steps of a start leave, for private clauses.
 use Rattle.std.specs.Prelude.{◌≡◌, ◌⊎◌, ℕ, List}
 use Rattle.sea_disk.specs.declared.file.File.{File}
-use Rattle.sea_disk.specs.declared.file.File.TheVariants.{Base0, Base1, Log0, Log1}
+use Rattle.sea_disk.specs.declared.file.File.TheVariants.{Base0, Base1, Log0, Log1, Arch}
 use Rattle.sea_disk.specs.Shown.{Files, Shown, IsImage, IsSettled}
 use Rattle.sea_disk.specs.Runs.{Leaves}
 use Rattle.sea_log.specs.declared.fault.LogFault.{LogFault}
@@ -10,11 +10,17 @@ use Rattle.sea_core.specs.declared.fault.StartFault.{StartFault}
 use Rattle.sea_core.specs.declared.fault.StartFault.TheVariants as start
 use Rattle.sea_core.specs.Stands.{IsClosedBase, StandAlike, KeepsStanding}
 
--- A run of calls that changes at no moment what the files stand for.
+-- the file `arch` is left alone
+pub record ArchStays (old new : Shown) : Type 0 where
+  pub seen : new.seen Arch ≡ old.seen Arch
+  pub image : (bytes : List ℕ) → new.image Arch bytes → old.image Arch bytes
+
+-- A run of calls that changes at no moment what the files stand for, and leaves `arch` alone.
 pub record Keeps (old new : Shown) : Type 0 where
   pub leaves : Leaves old new (KeepsStanding old)
   pub image : (files : Files) → IsImage new files → KeepsStanding old files
   pub alike : StandAlike old.seen new.seen
+  pub arch : ArchStays old new
 
 -- a stop leaves each file as reads give it
 abbrev pub IsAllSettled : Shown → Type 0

@@ -47,8 +47,9 @@ pub struct Core<D> {
 impl<D: Disk> Core<D> {
     ghost use Rattle.sea_core.specs.Causes.{EditCause};
     ghost use Rattle.sea_core.specs.Edits.{Edited};
-    ghost use Rattle.sea_core.specs.Sound.{IsSound, StandsWithOrWithout};
-    ghost use Rattle.sea_core.specs.Keeping.{Kept, StandsForEither};
+    ghost use Rattle.sea_core.specs.Sound.{IsSound, StandsForEither, StandsWithOrWithout};
+    ghost use Rattle.sea_core.specs.Keeping.{Kept};
+    ghost use Rattle.sea_core.specs.Steps.{ArchStays};
     ghost use Rattle.sea_core.specs.Taking.{TakesRecord};
 
     /// Applies an entry to the base, once its record is safe, and answers the new version. The entry's user is a text of
@@ -63,6 +64,7 @@ impl<D: Disk> Core<D> {
         ensures edited { Edited self.old self.new entry result }
         ensures counted { IsErrOf result CoreFault.DiskFault → IfSome self.new.doubt (λ doubt. doubt.count ≡ D.faults self.new.disk) }
         ensures any_moment { D.told → IsSound D.shows self.old → Leaves (D.shows self.old.disk) (D.shows self.new.disk) (StandsWithOrWithout self.old entry) }
+        ensures arch { D.told → IsSound D.shows self.old → ArchStays (D.shows self.old.disk) (D.shows self.new.disk) }
         ensures sound { D.told → IsSound D.shows self.old → IsSound D.shows self.new }
         ensures faults { EditCause result (D.faults self.old.disk) (D.faults self.new.disk) }
         ensures failed { EditCause result (D.failed self.old.disk) (D.failed self.new.disk) }
@@ -90,6 +92,7 @@ impl<D: Disk> Core<D> {
         ensures kept { Kept self.old self.new next payload.now result }
         ensures counted { IsErrOf result CoreFault.DiskFault → IfSome self.new.doubt (λ doubt. doubt.count ≡ D.faults self.new.disk) }
         ensures any_moment { D.told → TakesRecord self.old.base payload.now next → IsSound D.shows self.old → Leaves (D.shows self.old.disk) (D.shows self.new.disk) (StandsForEither self.old.base next) }
+        ensures arch { D.told → IsSound D.shows self.old → ArchStays (D.shows self.old.disk) (D.shows self.new.disk) }
         ensures sound { D.told → TakesRecord self.old.base payload.now next → IsSound D.shows self.old → IsSound D.shows self.new }
         ensures faults { EditCause result (D.faults self.old.disk) (D.faults self.new.disk) }
         ensures failed { EditCause result (D.failed self.old.disk) (D.failed self.new.disk) }

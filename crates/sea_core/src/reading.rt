@@ -14,12 +14,9 @@ use crate::fault::StartFault;
 use crate::replaying::replay;
 use crate::settling::SHORTEST_BASE;
 use sea_disk::{Disk, File};
-use sea_log::{Scan, one_list_at_most, scan};
+use sea_log::{OPEN, Scan, one_list_at_most, scan};
 use sea_plain::Plain;
 use std::alloc::Global;
-
-// A gate that is open.
-const OPEN: u8 = 1;
 
 /// The base that the files stand for, and the place of the gate that ends its log.
 pub fn read_base<D: Disk>(alloc: Global, disk: &mut D) -> Result<(Plain, u64), StartFault>

@@ -9,13 +9,10 @@ ghost use Rattle.sea_core.specs.Taking.{CountsStart, CountsFailedStart};
 
 use crate::fault::StartFault;
 use sea_disk::{Disk, File, write_through};
-use sea_log::{begin, one_list_at_most};
+use sea_log::{SHORTEST_LOG, begin, one_list_at_most};
 
 /// How many bytes a base file has at least whose gate counts.
 pub const SHORTEST_BASE: u64 = 17;
-
-/// How many bytes a log has at least whose first gate counts.
-pub const SHORTEST_LOG: u64 = 6;
 
 /// Makes the files safe as they are, and lays the first gate of each base file and log that is too short for a gate to
 /// count, closed.

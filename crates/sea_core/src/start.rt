@@ -7,6 +7,7 @@ ghost use Rattle.sea_core.specs.Causes.{StartCause};
 ghost use Rattle.sea_core.specs.Gates.{AreGatesLaid};
 ghost use Rattle.sea_core.specs.Sound.{IsReady, IsSound};
 ghost use Rattle.sea_core.specs.Stands.{StandsFor, KeepsStanding};
+ghost use Rattle.sea_core.specs.Steps.{ArchStays};
 ghost use Rattle.sea_core.specs.Taking.{CountsStart, CountsFailedStart};
 
 use crate::fault::StartFault;
@@ -24,7 +25,8 @@ impl<D: Disk> Core<D> {
     /// refusal.
     ///
     /// It syncs all five files, lays the first gate of each base file and log that is too short for a gate to count,
-    /// closed, and reads the logs once. At each moment of it the files stand for what they stood for.
+    /// closed, and reads the logs once. At each moment of it the files stand for what they stood for. The file
+    /// `arch` is left as it is.
     ///
     /// Refuses with DiskFault where a call of the disk failed, and with NotABase exactly where the files stand for no
     /// base.
@@ -36,6 +38,7 @@ impl<D: Disk> Core<D> {
         ensures no_base { D.told → IfErr result (λ refused. refused.0 ≡ NotABase → (base : Plain) → ¬ StandsFor base (D.shows disk).seen) }
         ensures any_moment { D.told → IfOk result (λ core. Leaves (D.shows disk) (D.shows core.disk) (KeepsStanding (D.shows disk))) }
         ensures any_moment_refused { D.told → IfErr result (λ refused. Leaves (D.shows disk) (D.shows refused.1) (KeepsStanding (D.shows disk))) }
+        ensures arch { D.told → MatchResult result (λ core. ArchStays (D.shows disk) (D.shows core.disk)) (λ refused. ArchStays (D.shows disk) (D.shows refused.1)) }
         ensures faults { MatchResult result (λ core. D.faults core.disk ≡ D.faults disk) (λ refused. StartCause refused.0 (D.faults disk) (D.faults refused.1)) }
         ensures failed { MatchResult result (λ core. D.failed core.disk ≡ D.failed disk) (λ refused. D.failed disk ≤ D.failed refused.1) }
     {
@@ -63,6 +66,7 @@ fn find<D: Disk>(alloc: Global, disk: &mut D) -> Result<(Plain, u64), StartFault
     ensures gates { D.told → IfOk result (λ _. AreGatesLaid (D.shows disk.new).seen) }
     ensures none { D.told → IsErrOf result StartFault.NotABase → (base : Plain) → ¬ StandsFor base (D.shows disk.old).seen }
     ensures leaves { D.told → Leaves (D.shows disk.old) (D.shows disk.new) (KeepsStanding (D.shows disk.old)) }
+    ensures arch { D.told → ArchStays (D.shows disk.old) (D.shows disk.new) }
     ensures faults { CountsStart result (D.faults disk.old) (D.faults disk.new) }
     ensures failed { CountsFailedStart result (D.failed disk.old) (D.failed disk.new) }
 {

@@ -11,7 +11,8 @@ use Rattle.sea_disk.specs.declared.calls.Note.{Note}
 use Rattle.sea_disk.specs.declared.calls.Track.{Track}
 use Rattle.sea_disk.specs.Calls.{overlaid, Torn, Cut}
 use Rattle.sea_disk.specs.Traced.{noted, traced, touches, sizes, IsLeft}
-use Rattle.sea_disk.specs.TracedLaws.{Agrees, any_neither, length-overlaid}
+use Rattle.sea_disk.specs.Composition.{length-overlaid}
+use Rattle.sea_disk.specs.TracedLaws.{Agrees, any_neither}
 
 -- bytes of this length: those of one list where a test holds, and those of another elsewhere
 abbrev mixed : (ℕ → Bool) → List ℕ → List ℕ → ℕ → List ℕ

@@ -1,5 +1,5 @@
 -- What one call does to a disk.
-use Rattle.std.specs.Prelude.{◌≡◌, ◌≢◌, ◌⊎◌, ℕ, ◌+◌, ◌-◌, ◌^◌, ◌≤◌, min, max, List, ◌++◌, length, take, drop, replicate, Result, MatchResult}
+use Rattle.std.specs.Prelude.{◌≡◌, ◌≢◌, ◌⊎◌, ℕ, ◌+◌, ◌-◌, ◌≤◌, min, max, List, ◌++◌, length, take, drop, replicate, Bool}
 use Rattle.sea_disk.specs.declared.file.File.{File}
 use Rattle.sea_disk.specs.Shown.{Files, Shown, IsImage}
 
@@ -51,21 +51,8 @@ pub record Rests (old new : Shown) : Type 0 where
   pub since : (moment : ℕ) (files : Files) → moment ≤ old.moment → new.since moment files → old.since moment files
   pub keeps : (moment : ℕ) (files : Files) → moment ≤ old.moment → old.since moment files → new.since moment files
 
--- ---- counts of faults
+-- ---- faults that are known beforehand
 
--- a count stands still here
-abbrev pub last_count : ℕ
-last_count = 2 ^ 64 - 1
-
--- The count rose. One that reached its last value stays there, and has then risen all the same.
-abbrev pub Rose : ℕ → ℕ → Type 0
-Rose before now = min (before + 1) last_count ≤ now
-
--- what a call's count of all faults says of its answer
-pub record CountsFault {T E : Type 0} (result : Result T E) (before now : ℕ) : Type 0 where
-  pub later : before ≤ now
-  pub cause : MatchResult result (λ _. now ≡ before) (λ _. Rose before now)
-
--- the same of the count of failed writing calls
-abbrev pub CountsFailed : {T E : Type 0} → Result T E → ℕ → ℕ → Type 0
-CountsFailed result before now = MatchResult result (λ _. now ≡ before) (λ _. (before ≤ now) × Rose before now)
+-- with each call those that come after it stand one place further to the front
+abbrev pub AreNext : (ℕ → Bool) → (ℕ → Bool) → Type 0
+AreNext old new = (place : ℕ) → new place ≡ old (place + 1)

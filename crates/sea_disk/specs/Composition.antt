@@ -1,10 +1,17 @@
 -- What several calls do follows from what each does. Crates above cite these, and reason about no image by themselves.
-use Rattle.std.specs.Prelude.{◌≡◌, ◌≢◌, ◌⊎◌, ℕ, List}
-use Rattle.std.proofs.Common.{inl, inr, refl, subst, sym, ◌∙◌, arith}
+use Rattle.std.specs.Prelude.{◌≡◌, ◌≢◌, ◌⊎◌, ℕ, ◌+◌, ◌-◌, max, List, ◌++◌, length, take, drop, replicate}
+use Rattle.std.proofs.Common.{inl, inr, refl, subst, sym, ◌∙◌, arith, length-append}
+use Rattle.std.proofs.lemmas.List.{length-take, length-drop, length-replicate}
 use Rattle.sea_disk.specs.declared.file.File.{File}
 use Rattle.sea_disk.specs.Shown.{Files, Shown, IsImage, IsDisk}
-use Rattle.sea_disk.specs.Calls.{Torn, Cut, After, OthersStay, Turns, Rests}
+use Rattle.sea_disk.specs.Calls.{overlaid, Torn, Cut, After, OthersStay, Turns, Rests}
 use Rattle.sea_disk.specs.Runs.{Leaves, AtFile, Works}
+
+-- ---- what a write makes of a file
+
+-- its size
+pub length-overlaid : (old : List ℕ) (at : ℕ) (piece : List ℕ) → length (overlaid old at piece) ≡ max (length old) (at + length piece)
+length-overlaid old at piece = omega (arith, length-append (take at old ++ replicate (at - length old) 0 ++ piece) (drop (at + length piece) old), length-append (take at old ++ replicate (at - length old) 0) piece, length-append (take at old) (replicate (at - length old) 0), length-take at old, length-replicate {A = ℕ} (at - length old) 0, length-drop (at + length piece) old)
 
 -- ---- the files that a call leaves alone
 

@@ -3,6 +3,7 @@ pub mod Composition
 pub mod Contents
 pub mod Runs
 pub mod Shown
+pub mod Steps
 pub mod Traced
 pub mod TracedLaws
 pub mod Untold

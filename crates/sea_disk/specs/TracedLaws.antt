@@ -2,7 +2,7 @@
 use Rattle.std.specs.Prelude.{◌≡◌, ℕ, ◌+◌, ◌-◌, ◌<◌, ◌≤◌, ◌==◌, ◌&&◌, ◌||◌, min, max, List, [], ◌∷◌, ◌++◌, length, take, drop, fold, replicate, slice_index, Bool, true, false, nat_le, if◌then◌else◌}
 use Rattle.std.specs.List.{list_any, list_all}
 use Rattle.std.proofs.Common.{refl, sym, ◌∙◌, ap, subst, inl, inr, arith, length-append, get_or}
-use Rattle.std.proofs.lemmas.List.{get_or-take, get_or_append_left, get_or-append_right, get_or-drop, take_all, length-take, length-drop, length-replicate}
+use Rattle.std.proofs.lemmas.List.{get_or-take, get_or_append_left, get_or-append_right, get_or-drop, take_all, length-take, length-replicate}
 use Rattle.std.proofs.lemmas.Bool.{cases_lt}
 use Rattle.std.proofs.lemmas.Bool.Decides.{nat_tests}
 use Rattle.sea_disk.specs.declared.file.File.{File}
@@ -13,6 +13,7 @@ use Rattle.sea_disk.specs.declared.calls.Note.{Note}
 use Rattle.sea_disk.specs.declared.calls.Track.{Track}
 use Rattle.sea_disk.specs.Shown.{IsDisk}
 use Rattle.sea_disk.specs.Calls.{overlaid}
+use Rattle.sea_disk.specs.Composition.{length-overlaid}
 use Rattle.sea_disk.specs.Traced.{is_file, fresh, noted, traced, traced_on, track_of, touches, sizes, IsLeft, shown_of}
 
 -- ---- tests of a list with one element more
@@ -102,9 +103,6 @@ noted_agrees track seen note agrees least most elsewhere = record {
 
 stays_elsewhere : (seen : List ℕ) (note : Note) → Elsewhere seen seen note
 stays_elsewhere seen note = λ place within _. (within, refl)
-
-pub length-overlaid : (old : List ℕ) (at : ℕ) (piece : List ℕ) → length (overlaid old at piece) ≡ max (length old) (at + length piece)
-length-overlaid old at piece = omega (arith, length-append (take at old ++ replicate (at - length old) 0 ++ piece) (drop (at + length piece) old), length-append (take at old ++ replicate (at - length old) 0) piece, length-append (take at old) (replicate (at - length old) 0), length-take at old, length-replicate {A = ℕ} (at - length old) 0, length-drop (at + length piece) old)
 
 overlaid_elsewhere : (old : List ℕ) (at : ℕ) (piece : List ℕ) (least most : ℕ) → Elsewhere old (overlaid old at piece) (record { from = at; to = at + length piece; least = least; most = most })
 overlaid_elsewhere old at piece least most = λ place within untouched. (

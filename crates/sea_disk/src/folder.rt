@@ -1,10 +1,11 @@
 // A disk over a folder of the system.
-ghost use Rattle.std.specs.Prelude.{◌≡◌, ◌≤◌, ◌+◌, min, IfOk};
-ghost use Rattle.sea_disk.specs.Calls.{last_count};
+ghost use Rattle.std.specs.Prelude.{◌≡◌, ◌≤◌, false, IfOk};
+ghost use Rattle.sea_faults.specs.Counts.{one_more, counted_on};
 ghost use Rattle.sea_disk.specs.Untold.{untold, untold_is_disk};
 
 use crate::disk::{Disk, Failed};
 use crate::file::File;
+use sea_faults::raise;
 use std::alloc::Global;
 use std::fs::{File as OpenFile, OpenOptions};
 use std::io;
@@ -62,23 +63,23 @@ impl FolderDisk {
 
     // Counts a failed call that writes nothing.
     fn read_fault(&mut self) -> Failed
-        ensures failed { self.new.failed ≡ min (self.old.failed + 1) last_count }
+        ensures failed { self.new.failed ≡ one_more self.old.failed }
         ensures failed_writes { self.new.failed_writes ≡ self.old.failed_writes }
         ensures later { self.old.failed ≤ self.new.failed }
     {
-        self.failed = self.failed.saturating_add(1);
+        raise(&mut self.failed);
         Failed
     }
 
     // Counts a failed writing call.
     fn write_fault(&mut self) -> Failed
-        ensures failed { self.new.failed ≡ min (self.old.failed + 1) last_count }
-        ensures failed_writes { self.new.failed_writes ≡ min (self.old.failed_writes + 1) last_count }
+        ensures failed { self.new.failed ≡ one_more self.old.failed }
+        ensures failed_writes { self.new.failed_writes ≡ one_more self.old.failed_writes }
         ensures later { self.old.failed ≤ self.new.failed }
         ensures later_writes { self.old.failed_writes ≤ self.new.failed_writes }
     {
-        self.failed = self.failed.saturating_add(1);
-        self.failed_writes = self.failed_writes.saturating_add(1);
+        raise(&mut self.failed);
+        raise(&mut self.failed_writes);
         Failed
     }
 }
@@ -109,6 +110,10 @@ impl Disk for FolderDisk {
     ghost faults = { λ disk. disk.failed };
 
     ghost failed = { λ disk. disk.failed_writes };
+
+    ghost due = { λ _ _. false };
+
+    ghost steps = { λ old new failed. new.failed ≡ counted_on failed old.failed };
 
     fn size(&mut self, file: File) -> Result<u64, Failed> {
         match self.file(file).metadata() {

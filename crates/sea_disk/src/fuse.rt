@@ -1,9 +1,11 @@
 // A disk that fails from some call on.
-ghost use Rattle.std.specs.Prelude.{◌≡◌, ◌+◌, min};
-ghost use Rattle.sea_disk.specs.Calls.{last_count};
+ghost use Rattle.std.specs.Prelude.{◌≡◌, ◌+◌, ◌-◌, ◌==◌, ◌||◌, not, nat_le, min};
+ghost use Rattle.sea_faults.specs.Counts.{last_count, one_more};
+ghost use Rattle.sea_disk.specs.Steps.{FuseSteps};
 
 use crate::disk::{Disk, Failed};
 use crate::file::File;
+use sea_faults::raise;
 
 /// A disk that passes a number of calls on to another one and then fails all. What is on the other disk then is what a
 /// stop at that call finds.
@@ -45,6 +47,36 @@ impl<D: Disk> Fuse<D> {
         } = self;
         disk
     }
+
+    // Takes one of the calls that are still passed on, and tells whether there was one.
+    fn next_passes(&mut self) -> bool
+        ensures passes { result ≡ not (self.old.calls == 0) }
+        ensures taken { self.new ≡ record self.old { calls = self.old.calls - 1 } }
+    {
+        let passes = self.calls != 0;
+        self.calls = self.calls.saturating_sub(1);
+        passes
+    }
+
+    // Counts a call that was failed here and writes nothing.
+    fn read_fault(&mut self) -> Failed
+        ensures { self.new ≡ record self.old { blown = one_more self.old.blown } }
+    {
+        raise(&mut self.blown);
+        Failed
+    }
+
+    // Counts a writing call that was failed here.
+    fn write_fault(&mut self) -> Failed
+        ensures { self.new ≡ record self.old {
+          blown = one_more self.old.blown;
+          blown_writes = one_more self.old.blown_writes;
+        } }
+    {
+        raise(&mut self.blown);
+        raise(&mut self.blown_writes);
+        Failed
+    }
 }
 
 impl<D: Disk> Disk for Fuse<D> {
@@ -56,51 +88,42 @@ impl<D: Disk> Disk for Fuse<D> {
 
     ghost failed = { λ fuse. min (D.failed fuse.disk + fuse.blown_writes) last_count };
 
+    ghost due = { λ fuse place. nat_le fuse.calls place || D.due fuse.disk place };
+
+    ghost steps = { λ old new failed. FuseSteps D.steps old new failed };
+
     fn size(&mut self, file: File) -> Result<u64, Failed> {
-        if self.calls == 0 {
-            self.blown = self.blown.saturating_add(1);
-            return Err(Failed);
+        if !self.next_passes() {
+            return Err(self.read_fault());
         }
-        self.calls -= 1;
         self.disk.size(file)
     }
 
     fn read(&mut self, file: File, at: u64, into: &mut [u8]) -> Result<(), Failed> {
-        if self.calls == 0 {
-            self.blown = self.blown.saturating_add(1);
-            return Err(Failed);
+        if !self.next_passes() {
+            return Err(self.read_fault());
         }
-        self.calls -= 1;
         self.disk.read(file, at, into)
     }
 
     fn write_at(&mut self, file: File, at: u64, bytes: &[u8]) -> Result<(), Failed> {
-        if self.calls == 0 {
-            self.blown = self.blown.saturating_add(1);
-            self.blown_writes = self.blown_writes.saturating_add(1);
-            return Err(Failed);
+        if !self.next_passes() {
+            return Err(self.write_fault());
         }
-        self.calls -= 1;
         self.disk.write_at(file, at, bytes)
     }
 
     fn cut(&mut self, file: File, len: u64) -> Result<(), Failed> {
-        if self.calls == 0 {
-            self.blown = self.blown.saturating_add(1);
-            self.blown_writes = self.blown_writes.saturating_add(1);
-            return Err(Failed);
+        if !self.next_passes() {
+            return Err(self.write_fault());
         }
-        self.calls -= 1;
         self.disk.cut(file, len)
     }
 
     fn sync(&mut self, file: File) -> Result<(), Failed> {
-        if self.calls == 0 {
-            self.blown = self.blown.saturating_add(1);
-            self.blown_writes = self.blown_writes.saturating_add(1);
-            return Err(Failed);
+        if !self.next_passes() {
+            return Err(self.write_fault());
         }
-        self.calls -= 1;
         self.disk.sync(file)
     }
 

@@ -78,6 +78,7 @@ impl History {
 
     /// Cuts a file to a length. Without memory nothing happens.
     pub fn cut(&mut self, file: File, len: u64) -> Result<(), AllocError>
+        ensures ok { OnOk result (self.new.calls ≡ with_call self.old.calls file (Act.Cut len)) }
         ensures err { OnErr result (self.new.calls ≡ self.old.calls) }
         ensures cut { OnOk result ((shown_of self.new.calls).seen file ≡ take len ((shown_of self.old.calls).seen file)) }
         ensures turns { Turns file (Cut len) (shown_of self.old.calls) (shown_of self.new.calls) }

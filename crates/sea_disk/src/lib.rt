@@ -1,9 +1,9 @@
 //! A disk whose unsynced bytes may come out of a stop as anything: the trait, a disk in memory, a disk over a folder, and
 //! a fuse.
 //!
-//! It stands on no other crate of the project. The contract that matters to the crates above is that of the trait `Disk`: what a read gives,
-//! and what a stop at any moment since a given one may have left. The definitions `Composition` are a part of it: what
-//! several calls leave follows from what each leaves, and no crate above reasons about images by itself.
+//! It stands on the counts of faults. The contract that matters to the crates above is that of the trait `Disk`: what a
+//! read gives, and what a stop at any moment since a given one may have left. The definitions `Composition` are a part
+//! of it: what several calls leave follows from what each leaves, and no crate above reasons about images by itself.
 #![tactic(auto)]
 
 mod bytes;
@@ -15,6 +15,7 @@ mod folder;
 mod fuse;
 mod history;
 mod memory;
+mod plan;
 #[cfg(test)]
 mod tests;
 mod through;

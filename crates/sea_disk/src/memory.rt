@@ -1,7 +1,8 @@
 // A disk in memory.
-ghost use Rattle.std.specs.Prelude.{◌≡◌, ◌+◌, ◌≤◌, ◌++◌, ◌∷◌, [], length, take, drop, min, IfOk, OnOk, OnErr};
+ghost use Rattle.std.specs.Prelude.{◌≡◌, ◌+◌, ◌≤◌, ◌++◌, ◌∷◌, [], length, take, drop, IfOk, OnOk, OnErr};
+ghost use Rattle.sea_faults.specs.Counts.{one_more};
 ghost use Rattle.sea_disk.specs.declared.file.File.{File};
-ghost use Rattle.sea_disk.specs.Calls.{last_count};
+ghost use Rattle.sea_disk.specs.Steps.{MemSteps, is_due};
 ghost use Rattle.sea_disk.specs.Shown.{IsImage, IsSettled};
 ghost use Rattle.sea_disk.specs.Traced.{track_of, shown_of, left_by};
 ghost use Rattle.sea_disk.specs.TracedLaws.{shown_is_disk};
@@ -9,7 +10,8 @@ ghost use Rattle.sea_disk.specs.TracedLaws.{shown_is_disk};
 use crate::disk::{Disk, Failed};
 use crate::file::File;
 use crate::history::History;
-use sqlite_items::Items;
+use crate::plan::Plan;
+use sea_faults::raise;
 use std::alloc::{AllocError, Global};
 
 /// A disk in memory. It tells its content, and keeps its writing calls, so that it knows what a stop may leave. It
@@ -19,22 +21,19 @@ pub struct MemDisk {
     alloc: Global,
     /// The files, and the writing calls that made them.
     pub history: History,
-    /// How many calls were made. The count stands still at `u64::MAX`, as the next two do.
-    pub made: u64,
-    /// How many calls failed.
+    /// How many calls were made, and which are to fail.
+    pub plan: Plan,
+    /// How many calls failed, and how many of them were writing calls. The counts stand still at `u64::MAX`.
     pub failed: u64,
-    /// How many writing calls failed.
     pub failed_writes: u64,
-    /// The numbers of the calls that are to fail.
-    pub fails: Items<u64>,
 }
 
 impl MemDisk {
     /// A disk of five empty files that no call was made on.
     pub fn blank(alloc: Global) -> Result<MemDisk, AllocError>
         ensures calls { IfOk result (λ disk. disk.history.calls ≡ []) }
-        ensures made { IfOk result (λ disk. disk.made ≡ 0) }
-        ensures faults { IfOk result (λ disk. (disk.failed ≡ 0) × (disk.failed_writes ≡ 0) × (disk.fails ≡ [])) }
+        ensures made { IfOk result (λ disk. disk.plan.made ≡ 0) }
+        ensures faults { IfOk result (λ disk. (disk.failed ≡ 0) × (disk.failed_writes ≡ 0) × (disk.plan.fails ≡ [])) }
     {
         Ok(MemDisk::over(alloc, History::new(alloc)))
     }
@@ -42,33 +41,32 @@ impl MemDisk {
     // A disk with these files, as no call found it yet.
     fn over(alloc: Global, history: History) -> MemDisk
         ensures history { result.history ≡ history }
-        ensures made { result.made ≡ 0 }
-        ensures faults { (result.failed ≡ 0) × (result.failed_writes ≡ 0) × (result.fails ≡ []) }
+        ensures made { result.plan.made ≡ 0 }
+        ensures faults { (result.failed ≡ 0) × (result.failed_writes ≡ 0) × (result.plan.fails ≡ []) }
     {
         MemDisk {
             alloc,
             history,
-            made: 0,
+            plan: Plan::new(alloc),
             failed: 0,
             failed_writes: 0,
-            fails: Items::new(alloc),
         }
     }
 
     /// How many calls were made since `blank` or `image` gave this disk.
     pub fn calls(&self) -> u64
-        ensures { result ≡ self.now.made }
+        ensures { result ≡ self.now.plan.made }
     {
-        self.made
+        self.plan.made
     }
 
     /// Makes the call of this number fail, where the first call since `blank` or `image` gave this disk has number 1.
     /// A failed write, cut or sync leaves what reads give as it was.
     pub fn fail(&mut self, call: u64) -> Result<(), AllocError>
-        ensures ok { OnOk result (self.new ≡ record self.old { fails = self.old.fails ++ call ∷ [] }) }
+        ensures ok { OnOk result (self.new ≡ record self.old { plan = record self.old.plan { fails = self.old.plan.fails ++ call ∷ [] } }) }
         ensures err { OnErr result (self.new ≡ self.old) }
     {
-        self.fails.push(call)
+        self.plan.fails.push(call)
     }
 
     /// What a stop leaves of this disk, by choice: with 0 nothing since each file's last good sync, with 1 everything,
@@ -78,50 +76,34 @@ impl MemDisk {
         ensures chosen { IfOk result (λ image. (file : File) → (shown_of image.history.calls).seen file ≡ left_by choice (track_of self.now.history.calls file)) }
         ensures image { IfOk result (λ image. IsImage (shown_of self.now.history.calls) (shown_of image.history.calls).seen) }
         ensures settled { IfOk result (λ image. (file : File) → IsSettled (shown_of image.history.calls) file) }
-        ensures made { IfOk result (λ image. image.made ≡ 0) }
-        ensures faults { IfOk result (λ image. (image.failed ≡ 0) × (image.failed_writes ≡ 0) × (image.fails ≡ [])) }
+        ensures made { IfOk result (λ image. image.plan.made ≡ 0) }
+        ensures faults { IfOk result (λ image. (image.failed ≡ 0) × (image.failed_writes ≡ 0) × (image.plan.fails ≡ [])) }
     {
         Ok(MemDisk::over(self.alloc, self.history.image(choice)?))
     }
 
-    // Counts the next call, and tells whether it is to fail.
-    fn next_fails(&mut self) -> bool
-        ensures history { self.new.history ≡ self.old.history }
-        ensures failed { self.new.failed ≡ self.old.failed }
-        ensures failed_writes { self.new.failed_writes ≡ self.old.failed_writes }
-    {
-        self.made = self.made.saturating_add(1);
-        is_listed(self.fails.as_slice(), self.made)
-    }
-
     // Counts a failed call that writes nothing.
     fn read_fault(&mut self) -> Failed
-        ensures history { self.new.history ≡ self.old.history }
-        ensures failed { self.new.failed ≡ min (self.old.failed + 1) last_count }
-        ensures failed_writes { self.new.failed_writes ≡ self.old.failed_writes }
+        ensures counted { self.new ≡ record self.old { failed = one_more self.old.failed } }
         ensures later { self.old.failed ≤ self.new.failed }
     {
-        self.failed = self.failed.saturating_add(1);
+        raise(&mut self.failed);
         Failed
     }
 
     // Counts a failed writing call.
     fn write_fault(&mut self) -> Failed
-        ensures history { self.new.history ≡ self.old.history }
-        ensures failed { self.new.failed ≡ min (self.old.failed + 1) last_count }
-        ensures failed_writes { self.new.failed_writes ≡ min (self.old.failed_writes + 1) last_count }
+        ensures counted { self.new ≡ record self.old {
+          failed = one_more self.old.failed;
+          failed_writes = one_more self.old.failed_writes;
+        } }
         ensures later { self.old.failed ≤ self.new.failed }
         ensures later_writes { self.old.failed_writes ≤ self.new.failed_writes }
     {
-        self.failed = self.failed.saturating_add(1);
-        self.failed_writes = self.failed_writes.saturating_add(1);
+        raise(&mut self.failed);
+        raise(&mut self.failed_writes);
         Failed
     }
-}
-
-// The number is among those listed.
-fn is_listed(numbers: &[u64], number: u64) -> bool {
-    numbers.contains(&number)
 }
 
 impl Disk for MemDisk {
@@ -133,15 +115,19 @@ impl Disk for MemDisk {
 
     ghost failed = { λ disk. disk.failed_writes };
 
+    ghost due = { λ disk. is_due disk.plan };
+
+    ghost steps = { λ old new failed. MemSteps old new failed };
+
     fn size(&mut self, file: File) -> Result<u64, Failed> {
-        if self.next_fails() {
+        if self.plan.next_fails() {
             return Err(self.read_fault());
         }
         Ok(self.history.bytes(file).len() as u64)
     }
 
     fn read(&mut self, file: File, at: u64, into: &mut [u8]) -> Result<(), Failed> {
-        if self.next_fails() {
+        if self.plan.next_fails() {
             return Err(self.read_fault());
         }
         place(self.history.bytes(file), at as usize, into);
@@ -149,7 +135,7 @@ impl Disk for MemDisk {
     }
 
     fn write_at(&mut self, file: File, at: u64, bytes: &[u8]) -> Result<(), Failed> {
-        if self.next_fails() {
+        if self.plan.next_fails() {
             let _ = self.history.fail_write(file, at, bytes.len());
             return Err(self.write_fault());
         }
@@ -160,7 +146,7 @@ impl Disk for MemDisk {
     }
 
     fn cut(&mut self, file: File, len: u64) -> Result<(), Failed> {
-        if self.next_fails() {
+        if self.plan.next_fails() {
             let _ = self.history.fail_cut(file, len);
             return Err(self.write_fault());
         }
@@ -171,7 +157,7 @@ impl Disk for MemDisk {
     }
 
     fn sync(&mut self, file: File) -> Result<(), Failed> {
-        if self.next_fails() {
+        if self.plan.next_fails() {
             return Err(self.write_fault());
         }
         match self.history.sync(file) {

@@ -1,7 +1,8 @@
 // A write and a cut that are made safe at once.
 ghost use Rattle.std.specs.Prelude.{◌≡◌, ◌≤◌, length, take, OnOk};
+ghost use Rattle.sea_faults.specs.Counts.{HasCause};
 ghost use Rattle.sea_disk.specs.Shown.{IsSettled};
-ghost use Rattle.sea_disk.specs.Calls.{overlaid, Torn, Cut, After, CountsFault, CountsFailed};
+ghost use Rattle.sea_disk.specs.Calls.{overlaid, Torn, Cut, After};
 ghost use Rattle.sea_disk.specs.Runs.{Works};
 
 use crate::disk::{Disk, Failed};
@@ -15,8 +16,8 @@ pub fn write_through<D: Disk>(disk: &mut D, file: File, at: u64, bytes: &[u8]) -
     ensures works { D.told → Works file (After file (Torn at (length bytes.now)) (D.shows disk.old)) (D.shows disk.old) (D.shows disk.new) }
     ensures written { D.told → OnOk result ((D.shows disk.new).seen file ≡ overlaid ((D.shows disk.old).seen file) at bytes.now) }
     ensures settled { D.told → OnOk result (IsSettled (D.shows disk.new) file) }
-    ensures faults { CountsFault result (D.faults disk.old) (D.faults disk.new) }
-    ensures failed { CountsFailed result (D.failed disk.old) (D.failed disk.new) }
+    ensures faults { HasCause result (D.faults disk.old) (D.faults disk.new) }
+    ensures failed { HasCause result (D.failed disk.old) (D.failed disk.new) }
 {
     disk.write_at(file, at, bytes)?;
     disk.sync(file)
@@ -31,8 +32,8 @@ pub fn cut_through<D: Disk>(disk: &mut D, file: File, len: u64) -> Result<(), Fa
     ensures works { D.told → Works file (After file (Cut len) (D.shows disk.old)) (D.shows disk.old) (D.shows disk.new) }
     ensures cut { D.told → OnOk result ((D.shows disk.new).seen file ≡ take len ((D.shows disk.old).seen file)) }
     ensures settled { D.told → OnOk result (IsSettled (D.shows disk.new) file) }
-    ensures faults { CountsFault result (D.faults disk.old) (D.faults disk.new) }
-    ensures failed { CountsFailed result (D.failed disk.old) (D.failed disk.new) }
+    ensures faults { HasCause result (D.faults disk.old) (D.faults disk.new) }
+    ensures failed { HasCause result (D.failed disk.old) (D.failed disk.new) }
 {
     disk.cut(file, len)?;
     disk.sync(file)

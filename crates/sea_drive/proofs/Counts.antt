@@ -1,13 +1,13 @@
 -- The disk's count of faults, as lines are played one after another.
 use Rattle.std.proofs.Common.{◌≡◌, ℕ, ◌+◌, ◌≤◌, ◌<◌, List, min, Bool, true, false, ◌||◌, Option, Some, Result, Ok, Err, subst, ◌∙◌, sym, refl, arith}
-use Rattle.sea_disk.specs.Calls.{Rose, last_count}
+use Rattle.sea_faults.specs.Counts.{Rose, IsCaused}
 use Rattle.sea_core.specs.Causes.{EditCause, StartCause}
 use Rattle.sea_core.specs.declared.fault.CoreFault.{CoreFault}
 use Rattle.sea_core.specs.declared.fault.CoreFault.TheVariants as core
 use Rattle.sea_core.specs.declared.fault.StartFault.{StartFault}
 use Rattle.sea_core.specs.declared.fault.StartFault.TheVariants as start
 use Rattle.sea_drive.specs.Outcome.{edit_outcome, is_disk_fault}
-use Rattle.sea_drive.specs.Play.{IsCaused, CountsDisk, Writes, end_status, fault_status, start_status}
+use Rattle.sea_drive.specs.Play.{CountsDisk, Writes, end_status, fault_status, start_status}
 use Rattle.sea_drive.specs.declared.lines.ReadFault.{ReadFault}
 use Rattle.sea_drive.specs.declared.lines.ReadFault.TheVariants as fault
 use Rattle.sea_drive.specs.declared.outcome.LineOutcome.{LineOutcome}
@@ -15,10 +15,16 @@ use Rattle.sea_drive.specs.declared.ending.Status.{Status}
 use Rattle.sea_drive.specs.declared.ending.Status.TheVariants.{Done, Usage, SourceFault, SinkFault, DiskFault, Memory, NotABase, TooLong}
 
 rose_later : (first old new : ℕ) → Rose first old → old ≤ new → Rose first new
-rose_later first old new rose later = omega (arith, rose, later)
+rose_later first old new rose later =
+    let before = rose.0 in
+    let more = rose.1 in
+    (omega (arith, before, later), omega (arith, more, later))
 
 rose_from : (first old new : ℕ) → first ≤ old → Rose old new → Rose first new
-rose_from first old new later rose = omega (arith, later, rose)
+rose_from first old new later rose =
+    let after = rose.0 in
+    let more = rose.1 in
+    (omega (arith, later, after), omega (arith, later, more))
 
 -- no count falls
 pub never_falls : (met : Bool) (before now : ℕ) → IsCaused met before now → before ≤ now
@@ -33,10 +39,7 @@ later_on was met first old new before line =
     omega (arith, earlier, later)
 
 counted_both : (first old new : ℕ) (was met : Bool) → IsCaused was first old → IsCaused met old new → IsCaused (was || met) first new
-counted_both first old new true true before line =
-    let earlier = before.0 in
-    let later = line.0 in
-    (omega (arith, earlier, later), rose_later first old new before.1 later)
+counted_both first old new true true before line = rose_later first old new before line.0
 counted_both first old new true false before same = subst (λ (count : ℕ). IsCaused true first count) (sym same) before
 counted_both first old new false true same line = subst (λ (count : ℕ). IsCaused true count new) same line
 counted_both first old new false false before same = same ∙ before
@@ -64,7 +67,7 @@ edit_counts (Err (core.FeedAhead version)) before now never = absurd never
 
 -- all lines were played
 pub ended_counts : (wanted faulted : Bool) (first now : ℕ) → IsCaused faulted first now → CountsDisk (end_status wanted faulted) first now
-ended_counts wanted true first now caused = record { later = caused.0; cause = λ is. caused.1; still = λ is. absurd (cc (is)) }
+ended_counts wanted true first now caused = record { later = caused.0; cause = λ is. caused; still = λ is. absurd (cc (is)) }
 ended_counts true false first now same = record { later = omega (arith, same); cause = λ is. absurd (cc (is)); still = λ is. absurd (cc (is)) }
 ended_counts false false first now same = record { later = omega (arith, same); cause = λ is. absurd (cc (is)); still = λ is. same }
 
@@ -78,7 +81,7 @@ unread_counts fault.TooLong first now later = record { later = later; cause = λ
 pub refused_counts : (why : StartFault) (first old new : ℕ) → first ≤ old → StartCause why old new → CountsDisk (start_status why) first new
 refused_counts start.DiskFault first old new earlier rose =
     let later = rose.0 in
-    record { later = omega (arith, earlier, later); cause = λ is. rose_from first old new earlier rose.1; still = λ is. absurd (cc (is)) }
+    record { later = omega (arith, earlier, later); cause = λ is. rose_from first old new earlier rose; still = λ is. absurd (cc (is)) }
 refused_counts start.Memory first old new earlier same = record { later = omega (arith, earlier, same); cause = λ is. absurd (cc (is)); still = λ is. absurd (cc (is)) }
 refused_counts start.NotABase first old new earlier same = record { later = omega (arith, earlier, same); cause = λ is. absurd (cc (is)); still = λ is. absurd (cc (is)) }
 

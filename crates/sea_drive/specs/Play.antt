@@ -3,7 +3,7 @@
 use Rattle.std.specs.Prelude.{◌≡◌, ◌⊎◌, ℕ, ◌≤◌, ℤ, List, [], ◌∷◌, ◌++◌, length, take, flat_map, All, Bool, true, false, if◌then◌else◌, is_none, Option, Some, None, IfSome}
 use Rattle.std.specs.List.{list_any}
 use Rattle.std.specs.Io.KnownBytes.{Appends, IsAtEnd}
-use Rattle.sea_edge.specs.Faults.{Rose}
+use Rattle.sea_faults.specs.Counts.{Rose}
 use Rattle.sea_disk.specs.Shown.{Files, Shown}
 use Rattle.sea_disk.specs.Runs.{Leaves}
 use Rattle.sea_core.specs.declared.kept.Core.{Core}
@@ -116,7 +116,7 @@ IsRefused fault taken given script = (script.refusal ≡ Some fault) × IsWritte
 abbrev pub IsTooLong : {D : Type 0} → Option (List ℕ) → Script D → Type 0
 IsTooLong input script = IfSome input (λ bytes. (read : ℕ) × (rest : List ℕ) × HasRead bytes script.lines read rest × PassesLimit read rest)
 
--- each line of which the newline was taken was played, and of the next one a part was taken
+-- each line of which the newline was taken was played, and of the next one a part may have been taken
 abbrev pub IsBrokenOff : {D : Type 0} → Option (List ℕ) → Option (List ℕ) → Script D → Type 0
 IsBrokenOff input left script = IfSome input (λ bytes. (read : ℕ) × (rest : List ℕ) × HasRead bytes script.lines read rest × BreaksOff (Some rest) left)
 
@@ -161,11 +161,6 @@ is_source_fault _ = false
 abbrev pub is_sink_fault : Status → Bool
 is_sink_fault SinkFault = true
 is_sink_fault _ = false
-
--- a fault is told of exactly where the count of faults rose; a count at its last value has risen all the same
-abbrev pub IsCaused : Bool → ℕ → ℕ → Type 0
-IsCaused true before now = (before ≤ now) × Rose before now
-IsCaused false before now = now ≡ before
 
 -- The disk's count of faults never falls. It rose where a status tells of a fault of the disk, and stands as it was where
 -- one tells that all was done.

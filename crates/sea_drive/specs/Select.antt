@@ -2,6 +2,7 @@
 use Rattle.std.specs.Prelude.{ℕ, ◌&&◌, ◌||◌, ◌==◌, List, [], ◌∷◌, length, map, take, slice_index, Bool, not, nat_lt, nat_le, if◌then◌else◌, Option, Some, None, option_and_then, codes}
 use Rattle.std.specs.List.{list_all, list_any}
 use Rattle.std.specs.Str.{str_eq_ignore_ascii_case}
+use Rattle.sea_moment.specs.Dates.{is_digit}
 use Rattle.sea_cell.specs.Cells.{cell_in}
 use Rattle.sea_links.specs.declared.pair.LinkPair.{LinkPair}
 use Rattle.sea_plain.specs.Linked.{row_shown}
@@ -22,9 +23,6 @@ keywords =
 -- a keyword, in capitals or not
 abbrev pub is_keyword : List ℕ → Bool
 is_keyword word = list_any (λ keyword. str_eq_ignore_ascii_case keyword word) keywords
-
-abbrev pub is_digit : ℕ → Bool
-is_digit byte = nat_le 48 byte && nat_le byte 57
 
 -- a letter, a digit or an underscore
 abbrev pub is_word_byte : ℕ → Bool

@@ -1,6 +1,7 @@
 -- What a turn of a played script makes of it.
 use Rattle.std.specs.Prelude.{◌≡◌, ◌⊎◌, ℕ, ◌+◌, ◌-◌, ◌≤◌, ◌<◌, ℤ, List, Bool, true, false, ◌||◌, is_none, Option, Some, None}
 use Rattle.std.specs.Io.KnownBytes.{Appends}
+use Rattle.sea_faults.specs.Counts.{IsCaused}
 use Rattle.sea_disk.specs.Shown.{Shown}
 use Rattle.sea_core.specs.Causes.{StartCause}
 use Rattle.sea_core.specs.declared.kept.Core.{Core}
@@ -8,7 +9,7 @@ use Rattle.sea_core.specs.declared.limits.Limits.{Limits}
 use Rattle.sea_core.specs.declared.fault.StartFault.{StartFault}
 use Rattle.sea_drive.specs.Lines.{Place, input_limit}
 use Rattle.sea_drive.specs.Outcome.{start_outcome, is_disk_fault}
-use Rattle.sea_drive.specs.Play.{Ends, Goes, Writes, start_status, is_source_fault, is_sink_fault, IsCaused, CountsDisk}
+use Rattle.sea_drive.specs.Play.{Ends, Goes, Writes, start_status, is_source_fault, is_sink_fault, CountsDisk}
 use Rattle.sea_drive.specs.Reply.{reply_line}
 use Rattle.sea_drive.specs.Steps.{LineStep}
 use Rattle.sea_drive.specs.declared.line.Played.{Played}

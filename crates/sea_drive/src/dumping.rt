@@ -1,10 +1,11 @@
 // Dumping a base.
 ghost use Rattle.std.specs.Prelude.{◌≡◌, false, flat_map};
+ghost use Rattle.sea_faults.specs.Counts.{IsCaused};
 ghost use Rattle.sea_core.specs.Stands.{StandsFor};
 ghost use Rattle.sea_edge.specs.Bytes.{Gives};
 ghost use Rattle.sea_plain.specs.declared.base.Plain.{Plain};
 ghost use Rattle.sea_drive.specs.Dump.{Dumps, dump_lines, dump_status as dump_status_of, met_sink_fault, row_line as row_line_of, table_line as table_line_of, table_lines};
-ghost use Rattle.sea_drive.specs.Play.{IsCaused, CountsDisk, is_source_fault, is_sink_fault};
+ghost use Rattle.sea_drive.specs.Play.{CountsDisk, is_source_fault, is_sink_fault};
 
 use crate::dump_lines::{row_line, table_line};
 use crate::ending::Status;

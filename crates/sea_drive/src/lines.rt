@@ -3,7 +3,7 @@ ghost use Rattle.std.specs.Prelude.{◌≡◌, ◌≢◌, ◌+◌, ◌-◌, ◌<
 ghost use Rattle.std.specs.List.{position_or_len};
 ghost use Rattle.sea_drive.specs.Lines.{line_limit, input_limit};
 ghost use Rattle.sea_edge.specs.Bytes.{Takes};
-ghost use Rattle.sea_edge.specs.Faults.{HasCause, Rose};
+ghost use Rattle.sea_faults.specs.Counts.{HasCause, Rose};
 
 use memchr::memchr;
 use sea_edge::Source;
@@ -84,7 +84,7 @@ fn refill<S: Source>(source: &mut S, buffer: &mut [u8], room: usize) -> Result<u
     ensures bound { IfOk result (λ count. count ≤ room) }
     ensures bytes { Takes (S.left source.old) (S.left source.new) result buffer.new }
     ensures fault { IfErr result (λ fault. fault ≡ ReadFault.Source) }
-    ensures cause { HasCause (S.faults source.old) (S.faults source.new) result }
+    ensures cause { HasCause result (S.faults source.old) (S.faults source.new) }
 {
     match source.take(&mut buffer[..room]) {
         Ok(count) => Ok(count),
@@ -153,7 +153,7 @@ impl LineReader {
         ensures end { result ≡ Ok false → IsAtEnd (place_of self.old (S.left source.old)).rest }
         ensures fault { IfErr result (λ fault. fault ≡ ReadFault.Source) }
         ensures none { IfErr result (λ _. unread self.new ≡ []) }
-        ensures cause { HasCause (S.faults source.old) (S.faults source.new) result }
+        ensures cause { HasCause result (S.faults source.old) (S.faults source.new) }
     {
         if self.from < self.to {
             return Ok(true);

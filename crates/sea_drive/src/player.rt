@@ -1,11 +1,12 @@
 // Playing a script.
 ghost use Rattle.std.specs.Prelude.{◌≡◌, ◌<◌, ◌≤◌, ◌||◌, ℕ, List, Option, Some, None, is_none, false};
+ghost use Rattle.sea_faults.specs.Counts.{IsCaused};
 ghost use Rattle.sea_core.specs.Stands.{StandsFor};
 ghost use Rattle.sea_plain.specs.declared.base.Plain.{Plain};
 ghost use Rattle.sea_core.specs.declared.limits.Limits.{Limits};
 ghost use Rattle.sea_drive.specs.Lines.{KeepsTotal, TakesWithin};
 ghost use Rattle.sea_drive.specs.Outcome.{start_outcome as start_outcome_of, is_disk_fault as is_disk_fault_of};
-ghost use Rattle.sea_drive.specs.Play.{Ends, Goes, IsCaused, CountsDisk, is_source_fault, is_sink_fault, Writes, WritesPiece, end_status as end_status_of, fault_status as fault_status_of, start_status as start_status_of};
+ghost use Rattle.sea_drive.specs.Play.{Ends, Goes, CountsDisk, is_source_fault, is_sink_fault, Writes, WritesPiece, end_status as end_status_of, fault_status as fault_status_of, start_status as start_status_of};
 ghost use Rattle.sea_drive.specs.Reader.{place_of};
 ghost use Rattle.sea_drive.specs.Turns.{PlaysOn, Turns, has_source_fault, has_sink_fault, ends_by, CountsTurn, ReadsOn};
 

@@ -5,7 +5,7 @@ ghost use Rattle.sea_moment.specs.Moment.{IsMoment};
 ghost use Rattle.sea_ops.specs.Operations.{op_of};
 ghost use Rattle.sea_drive.specs.Outcome.{edit_outcome as edit_outcome_of, select_outcome, is_disk_fault};
 ghost use Rattle.sea_drive.specs.Select.{select_of};
-ghost use Rattle.sea_drive.specs.Play.{IsCaused};
+ghost use Rattle.sea_faults.specs.Counts.{IsCaused};
 ghost use Rattle.sea_drive.specs.Steps.{LineStep, VerbStep, Stays, Edits, EditsText};
 ghost use Rattle.sea_drive.specs.Turns.{Counted};
 

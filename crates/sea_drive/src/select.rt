@@ -3,7 +3,8 @@ ghost use Rattle.std.specs.Prelude.{◌≡◌, map, take, option_map, IfOk};
 ghost use Rattle.std.specs.List.{list_all, list_any};
 ghost use Rattle.std.specs.Str.{str_eq_ignore_ascii_case};
 ghost use Rattle.sea_cell.specs.Cells.{cell_in as cell_in_row};
-ghost use Rattle.sea_drive.specs.Select.{select_of, is_keyword as is_keyword_of, is_digit as is_digit_of, is_word_byte as is_word_byte_of, is_table_word as is_table_word_of, answer_of as answer_for};
+ghost use Rattle.sea_moment.specs.Dates.{is_digit as is_digit_of};
+ghost use Rattle.sea_drive.specs.Select.{select_of, is_keyword as is_keyword_of, is_word_byte as is_word_byte_of, is_table_word as is_table_word_of, answer_of as answer_for};
 
 use crate::outcome::{Answer, AnswerRow, AnswerRows};
 use crate::texts::stripped;

@@ -1,4 +1,3 @@
-pub mod Faults
 pub mod Bytes
 pub mod Minutes
 pub mod Memory

@@ -2,12 +2,13 @@
 ghost use Rattle.std.specs.Prelude.{◌≡◌, ◌+◌, ◌-◌, ◌<◌, ◌≤◌, ◌++◌, min, length, take, drop, true, false, is_err, Some, IfOk, OnErr, vec_len, if◌then◌else◌};
 ghost use Rattle.std.specs.Vec.{vec_capacity};
 ghost use Rattle.sea_moment.specs.Moment.{IsMoment};
-ghost use Rattle.sea_edge.specs.Faults.{HasCause, one_more};
+ghost use Rattle.sea_faults.specs.Counts.{HasCause, one_more, faults_after, is_listed as is_listed_of};
 ghost use Rattle.sea_edge.specs.Bytes.{Takes, Gives};
-ghost use Rattle.sea_edge.specs.Memory.{is_listed, placed, faults_after};
+ghost use Rattle.sea_edge.specs.Memory.{placed};
 
 use crate::fault::counted;
 use crate::outside::{Clock, Failed, Sink, Source};
+use sea_faults::{is_listed, raise};
 
 /// A source over memory. It gives at most `piece` bytes a call, and fails exactly the calls that are listed.
 #[derive(Drop)]
@@ -60,8 +61,8 @@ impl Source for MemSource {
         ensures bound { IfOk result (λ count. count ≤ length into.new) }
         ensures bytes { Takes (Some (drop self.old.given self.old.bytes.items))
             (Some (drop self.new.given self.new.bytes.items)) result into.new }
-        ensures cause { HasCause self.old.failed self.new.failed result }
-        ensures fails { is_err result ≡ is_listed self.old.fails.items (one_more self.old.calls) }
+        ensures cause { HasCause result self.old.failed self.new.failed }
+        ensures fails { is_err result ≡ is_listed_of self.old.fails.items (one_more self.old.calls) }
         ensures count { IfOk result (λ count. count
             ≡ min self.old.piece (min (length into.old) (length self.old.bytes.items - self.old.given))) }
         ensures into { into.new
@@ -73,8 +74,8 @@ impl Source for MemSource {
           within = within;
         }) }
     {
-        self.calls = self.calls.saturating_add(1);
-        if is_among(&self.fails, self.calls) {
+        raise(&mut self.calls);
+        if is_listed(&self.fails, self.calls) {
             return Err(counted(&mut self.failed));
         }
         let left = &self.bytes[self.given..];
@@ -82,13 +83,6 @@ impl Source for MemSource {
         self.given += count;
         Ok(count)
     }
-}
-
-// Whether the call of this number is one of those listed.
-fn is_among(calls: &[u64], number: u64) -> bool
-    ensures { result ≡ is_listed calls.now number }
-{
-    calls.contains(&number)
 }
 
 // Places as many bytes as both have, and at most `piece`, and answers how many.
@@ -136,9 +130,9 @@ impl Sink for MemSink {
 
     fn give(&mut self, piece: &[u8]) -> Result<(), Failed>
         ensures bytes { Gives (Some self.old.taken.items) (Some self.new.taken.items) result piece.now }
-        ensures cause { HasCause self.old.failed self.new.failed result }
-        ensures listed { is_listed self.old.fails.items (one_more self.old.calls) ≡ true → is_err result ≡ true }
-        ensures memory { is_listed self.old.fails.items (one_more self.old.calls) ≡ false
+        ensures cause { HasCause result self.old.failed self.new.failed }
+        ensures listed { is_listed_of self.old.fails.items (one_more self.old.calls) ≡ true → is_err result ≡ true }
+        ensures memory { is_listed_of self.old.fails.items (one_more self.old.calls) ≡ false
             → OnErr result (vec_capacity self.old.taken < vec_len self.old.taken + length piece.now) }
         ensures whole { self.new.taken.items ≡ (if is_err result then self.old.taken.items
             else self.old.taken.items ++ piece.now) }
@@ -148,8 +142,8 @@ impl Sink for MemSink {
           failed = faults_after result self.old.failed;
         } }
     {
-        self.calls = self.calls.saturating_add(1);
-        if is_among(&self.fails, self.calls) {
+        raise(&mut self.calls);
+        if is_listed(&self.fails, self.calls) {
             return Err(counted(&mut self.failed));
         }
         let Ok(()) = self.taken.extend_from_slice(piece) else {

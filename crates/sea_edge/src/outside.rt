@@ -1,7 +1,7 @@
 // The traits of the outside: where bytes come from, where they go to, and what time it is.
 ghost use Rattle.std.specs.Prelude.{◌≡◌, ◌<◌, ◌≤◌, ℕ, ℤ, List, length, Option, IfOk};
 ghost use Rattle.sea_moment.specs.Moment.{IsMoment};
-ghost use Rattle.sea_edge.specs.Faults.{HasCause};
+ghost use Rattle.sea_faults.specs.Counts.{HasCause};
 ghost use Rattle.sea_edge.specs.Bytes.{Takes, Gives};
 ghost use Rattle.sea_edge.specs.Minutes.{Tells};
 
@@ -25,7 +25,7 @@ pub trait Source {
         requires { 0 < length into.old }
         ensures bound { IfOk result (λ count. count ≤ length into.new) }
         ensures bytes { Takes (left self.old) (left self.new) result into.new }
-        ensures cause { HasCause (faults self.old) (faults self.new) result };
+        ensures cause { HasCause result (faults self.old) (faults self.new) };
 }
 
 /// Where bytes go to.
@@ -39,7 +39,7 @@ pub trait Sink {
     /// Appends the whole piece. Where it fails, it has appended some front of the piece.
     fn give(&mut self, piece: &[u8]) -> Result<(), Failed>
         ensures bytes { Gives (taken self.old) (taken self.new) result piece.now }
-        ensures cause { HasCause (faults self.old) (faults self.new) result };
+        ensures cause { HasCause result (faults self.old) (faults self.new) };
 }
 
 /// A clock of whole minutes from 1970-01-01 00:00 UTC, within the years 1 to 9999. It has no faults.

@@ -3,9 +3,8 @@ ghost use Rattle.std.specs.Prelude.{◌≡◌, ◌<◌, ◌≤◌, ◌/◌, pos,
 ghost use Rattle.std.specs.Io.KnownBytes.{ReadConsumes, Appends};
 ghost use Rattle.std.specs.Duration.{as_nanos};
 ghost use Rattle.sea_moment.specs.Moment.{last_moment, IsMoment};
-ghost use Rattle.sea_edge.specs.Faults.{HasCause};
+ghost use Rattle.sea_faults.specs.Counts.{HasCause, faults_after};
 ghost use Rattle.sea_edge.specs.Bytes.{Gives};
-ghost use Rattle.sea_edge.specs.Memory.{faults_after};
 
 use crate::fault::counted;
 use crate::outside::{Clock, Failed, Sink, Source};
@@ -41,7 +40,7 @@ impl<R: Read> Source for StdSource<R> {
     fn take(&mut self, into: &mut [u8]) -> Result<usize, Failed>
         requires { 0 < length into.old }
         ensures bound { IfOk result (λ count. count ≤ length into.new) }
-        ensures cause { HasCause self.old.failed self.new.failed result }
+        ensures cause { HasCause result self.old.failed self.new.failed }
         ensures read { ReadConsumes (R.remaining self.old.reader) (R.remaining self.new.reader) result into.new }
         ensures failed { self.new.failed ≡ faults_after result self.old.failed }
     {
@@ -78,7 +77,7 @@ impl<W: Write> Sink for StdSink<W> {
 
     fn give(&mut self, piece: &[u8]) -> Result<(), Failed>
         ensures bytes { Gives None None result piece.now }
-        ensures cause { HasCause self.old.failed self.new.failed result }
+        ensures cause { HasCause result self.old.failed self.new.failed }
         ensures written { OnOk result (Appends (W.contents self.old.writer) (W.contents self.new.writer) piece.now) }
         ensures failed { self.new.failed ≡ faults_after result self.old.failed }
     {

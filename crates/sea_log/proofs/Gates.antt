@@ -1,11 +1,12 @@
 -- What writes leave of a log file, also those that are cut short.
-use Rattle.std.proofs.Common.{◌≡◌, ◌≢◌, ℕ, ◌+◌, ◌-◌, ◌^◌, ◌<◌, ◌≤◌, List, [], ◌∷◌, ◌++◌, length, take, drop, get_or, refl, sym, ap, ◌∙◌, subst, inl, inr, arith}
+use Rattle.std.proofs.Common.{◌≡◌, ◌≢◌, ℕ, ◌+◌, ◌-◌, ◌^◌, ◌<◌, ◌≤◌, List, [], ◌∷◌, ◌++◌, length, take, drop, get_or, max, refl, sym, ap, ◌∙◌, subst, inl, inr, arith}
 use Rattle.std.proofs.lemmas.Bool.{cases_eq, cases_lt}
 use Rattle.std.proofs.lemmas.List.{append-nil, append_assoc, length-append, drop_more, take-append-drop, take_at, drop_at}
 use Rattle.sea_fields.specs.Fields.{led}
 use Rattle.sea_disk.specs.Calls.{overlaid, Torn, Cut}
+use Rattle.sea_disk.specs.Composition.{length-overlaid}
 use Rattle.sea_log.specs.Records.{records, HaveLengths, IsClosedAt, HoldsList, HoldsWithOrWithout, HoldsListOrNone}
-use Rattle.sea_log.proofs.RecordsLaws.{length-records-push, HaveLengths-push, records-opened, no_record_is_short}
+use Rattle.sea_log.proofs.RecordsLaws.{length-led, length-records-push, HaveLengths-push, records-opened, no_record_is_short}
 
 -- ---- writes within a file
 
@@ -185,3 +186,17 @@ cut_behind_gate {bytes = bytes} {now = now} closed cut =
 -- a write of the first gate of a short file that is cut short leaves a short file
 pub torn_short : {bytes now : List ℕ} → length bytes < 6 → Torn 0 1 bytes now → HoldsList [] now
 torn_short short torn = (0, inr (record { short = omega (arith, short, torn.no_longer); none = refl; place = refl }))
+
+-- ---- sizes
+
+-- a log with a record more
+pub appended_size : (old mid new payload row : List ℕ) (end : ℕ) → row ≡ led payload ++ 0 ∷ [] → mid ≡ overlaid old (end + 1) row → new ≡ overlaid mid end (1 ∷ []) → length new ≡ max (length old) (end + 6 + length payload)
+appended_size old mid new payload row end is first second =
+    let last : length new ≡ max (length mid) (end + 1) = ap length second ∙ length-overlaid mid end (1 ∷ []) in
+    let middle : length mid ≡ max (length old) (end + 1 + length row) = ap length first ∙ length-overlaid old (end + 1) row in
+    let record_size : length row ≡ length payload + 5 = ap length is ∙ omega (arith, length-append (led payload) (0 ∷ []), length-led payload) in
+    omega (arith, last, middle, record_size)
+
+-- a first gate alone
+pub closed_alone : (old mid new : List ℕ) → mid ≡ overlaid old 0 (0 ∷ []) → new ≡ take 1 mid → new ≡ 0 ∷ []
+closed_alone old mid new first second = second ∙ ap (λ bytes. take 1 bytes) (first ∙ overlaid_within old 0 (0 ∷ []) (omega arith))

@@ -1,9 +1,9 @@
 // One record more.
-ghost use Rattle.std.specs.Prelude.{◌≡◌, ◌+◌, ◌^◌, ◌<◌, ◌≤◌, ◌++◌, ◌∷◌, [], ◌↔◌, ℕ, List, length, IfOk, OnOk, IsErrOf};
+ghost use Rattle.std.specs.Prelude.{◌≡◌, ◌+◌, ◌^◌, ◌<◌, ◌≤◌, ◌++◌, ◌∷◌, [], ◌↔◌, ℕ, List, length, max, IfOk, OnOk, IsErrOf};
 ghost use Rattle.sea_disk.specs.Shown.{IsSettled};
 ghost use Rattle.sea_disk.specs.Runs.{Works};
 ghost use Rattle.sea_fields.specs.Fields.{led};
-ghost use Rattle.sea_log.specs.Faults.{HasCause};
+ghost use Rattle.sea_log.specs.Faults.{LogCause};
 ghost use Rattle.sea_log.specs.Images.{IsClosedInImages};
 ghost use Rattle.sea_log.specs.Records.{HoldsWithOrWithout, size_with};
 
@@ -34,13 +34,14 @@ pub fn append<D: Disk>(
     ensures added { D.told → (payloads : List (List ℕ)) → IsClosedInImages (D.shows disk.old) file payloads end
         → IfOk result (λ place. IsClosedInImages (D.shows disk.new) file (payloads ++ payload.now ∷ []) place) }
     ensures settled { D.told → OnOk result (IsSettled (D.shows disk.new) file) }
+    ensures size { D.told → OnOk result (length ((D.shows disk.new).seen file) ≡ max (length ((D.shows disk.old).seen file)) (end + 6 + length payload.now)) }
     ensures place { IfOk result (λ place. place ≡ end + 5 + length payload.now) }
     ensures full { (size : ℕ) → IsErrOf result (LogFault.LogFull size) ↔ ((size ≡ size_with end payload.now) × (most < size)) }
     ensures not_bad { ¬ IsErrOf result LogFault.BadLog }
     ensures untouched_full { (size : ℕ) → IsErrOf result (LogFault.LogFull size) → disk.new ≡ disk.old }
     ensures untouched_memory { IsErrOf result LogFault.Memory → disk.new ≡ disk.old }
-    ensures faults { HasCause result (D.faults disk.old) (D.faults disk.new) }
-    ensures failed { HasCause result (D.failed disk.old) (D.failed disk.new) }
+    ensures faults { LogCause result (D.faults disk.old) (D.faults disk.new) }
+    ensures failed { LogCause result (D.failed disk.old) (D.failed disk.new) }
 {
     let size = end.saturating_add(6).saturating_add(payload.len() as u64);
     if size > most {

@@ -1,8 +1,9 @@
 // The first gate of a log.
-ghost use Rattle.std.specs.Prelude.{◌≡◌, ◌<◌, [], List, ℕ, length, OnOk, OnErr};
+ghost use Rattle.std.specs.Prelude.{◌≡◌, ◌<◌, ◌∷◌, [], List, ℕ, length, OnOk, OnErr};
 ghost use Rattle.sea_disk.specs.Shown.{IsSettled};
+ghost use Rattle.sea_disk.specs.Calls.{overlaid};
 ghost use Rattle.sea_disk.specs.Runs.{Works};
-ghost use Rattle.sea_log.specs.Faults.{HasCause};
+ghost use Rattle.sea_log.specs.Faults.{LogCause};
 ghost use Rattle.sea_log.specs.Images.{IsClosedInImages};
 ghost use Rattle.sea_log.specs.Records.{HoldsList};
 
@@ -19,9 +20,10 @@ pub fn begin<D: Disk>(disk: &mut D, file: File) -> Result<(), LogFault>
     ensures begun { D.told → ((bytes : List ℕ) → (D.shows disk.old).image file bytes → length bytes < 6)
         → OnOk result (IsClosedInImages (D.shows disk.new) file [] 0) }
     ensures settled { D.told → OnOk result (IsSettled (D.shows disk.new) file) }
+    ensures laid { D.told → OnOk result ((D.shows disk.new).seen file ≡ overlaid ((D.shows disk.old).seen file) 0 (0 ∷ [])) }
     ensures only_the_disk { OnErr result (result ≡ Err LogFault.DiskFault) }
-    ensures faults { HasCause result (D.faults disk.old) (D.faults disk.new) }
-    ensures failed { HasCause result (D.failed disk.old) (D.failed disk.new) }
+    ensures faults { LogCause result (D.faults disk.old) (D.faults disk.new) }
+    ensures failed { LogCause result (D.failed disk.old) (D.failed disk.new) }
 {
     write_through(disk, file, 0, &[0])?;
     Ok(())

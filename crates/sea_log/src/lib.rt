@@ -25,4 +25,4 @@ pub use clearing::clear;
 pub use fault::LogFault;
 pub use laws::one_list_at_most;
 pub use list::{Payloads, Scan};
-pub use scanning::scan;
+pub use scanning::{OPEN, SHORTEST_LOG, scan};

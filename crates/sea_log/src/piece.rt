@@ -1,7 +1,7 @@
 // Reading a file in large pieces.
 ghost use Rattle.std.specs.Prelude.{◌≡◌, ◌+◌, ◌≤◌, ◌↔◌, ℕ, List, length, take, drop, [], IsTrue, IfOk, IfErr, OnOk};
 ghost use Rattle.sea_disk.specs.Calls.{Rests};
-ghost use Rattle.sea_log.specs.Faults.{HasCause};
+ghost use Rattle.sea_log.specs.Faults.{LogCause};
 ghost use Rattle.sea_log.specs.Reading.{StandAt, IsFromBelow};
 
 use crate::fault::LogFault;
@@ -66,7 +66,7 @@ impl Piece {
         ensures piece { D.told → OnOk result (StandAt self.new.bytes.items self.new.from ((D.shows disk.old).seen whole.file)) }
         ensures below { IfErr result IsFromBelow }
         ensures rests { D.told → Rests (D.shows disk.old) (D.shows disk.new) }
-        ensures faults { HasCause result (D.faults disk.old) (D.faults disk.new) }
+        ensures faults { LogCause result (D.faults disk.old) (D.faults disk.new) }
         ensures failed { D.failed disk.new ≡ D.failed disk.old }
     {
         if self.has(at, count) {
@@ -105,7 +105,7 @@ fn bytes_at<D: Disk>(
     ensures length { IfOk result (λ bytes. length bytes.items ≡ count) }
     ensures below { IfErr result IsFromBelow }
     ensures rests { D.told → Rests (D.shows disk.old) (D.shows disk.new) }
-    ensures faults { HasCause result (D.faults disk.old) (D.faults disk.new) }
+    ensures faults { LogCause result (D.faults disk.old) (D.faults disk.new) }
     ensures failed { D.failed disk.new ≡ D.failed disk.old }
 {
     let mut bytes = vec![in alloc; 0u8; count as usize]?;
@@ -130,7 +130,7 @@ pub fn payload_at<D: Disk>(
     ensures piece { D.told → OnOk result (StandAt piece.new.bytes.items piece.new.from ((D.shows disk.old).seen whole.file)) }
     ensures below { IfErr result IsFromBelow }
     ensures rests { D.told → Rests (D.shows disk.old) (D.shows disk.new) }
-    ensures faults { HasCause result (D.faults disk.old) (D.faults disk.new) }
+    ensures faults { LogCause result (D.faults disk.old) (D.faults disk.new) }
     ensures failed { D.failed disk.new ≡ D.failed disk.old }
 {
     if count > PIECE {

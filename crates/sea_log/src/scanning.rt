@@ -2,7 +2,7 @@
 ghost use Rattle.std.specs.Prelude.{◌≡◌, ◌+◌, ◌^◌, ◌<◌, ◌≤◌, ℕ, List, length, min, take, drop, IfOk, IfErr, IfSome, IsErrOf, OnOk};
 ghost use Rattle.std.specs.Int.{w32, to_be_bytes};
 ghost use Rattle.sea_disk.specs.Calls.{Rests};
-ghost use Rattle.sea_log.specs.Faults.{HasCause};
+ghost use Rattle.sea_log.specs.Faults.{LogCause};
 ghost use Rattle.sea_log.specs.Reading.{StandAt, IsNoRecord, HasLength, HasPayload};
 ghost use Rattle.sea_log.specs.Records.{IsLog, HoldsList};
 
@@ -13,11 +13,11 @@ use sea_disk::{Disk, File};
 use sea_fields::Bytes;
 use std::alloc::Global;
 
-// A gate that is open.
-const OPEN: u8 = 1;
+/// A gate that is open.
+pub const OPEN: u8 = 1;
 
-// How many bytes a record has at least with the gates before it and behind it.
-const SHORTEST: u64 = 6;
+/// How many bytes a record has at least with the gates before it and behind it. In a log of fewer no gate counts.
+pub const SHORTEST_LOG: u64 = 6;
 
 // How many bytes stand before its payload: its gate and its length.
 const HEADER: u64 = 5;
@@ -31,13 +31,13 @@ pub fn scan<D: Disk>(alloc: Global, disk: &mut D, file: File) -> Result<Scan, Lo
     ensures bad { D.told → IsErrOf result LogFault.BadLog → (payloads : List (List ℕ)) → ¬ HoldsList payloads ((D.shows disk.old).seen file) }
     ensures not_full { (size : ℕ) → ¬ IsErrOf result (LogFault.LogFull size) }
     ensures rests { D.told → Rests (D.shows disk.old) (D.shows disk.new) }
-    ensures faults { HasCause result (D.faults disk.old) (D.faults disk.new) }
+    ensures faults { LogCause result (D.faults disk.old) (D.faults disk.new) }
     ensures failed { D.failed disk.new ≡ D.failed disk.old }
 {
     let size = disk.size(file)?;
     let mut payloads = Payloads::new(alloc);
     let mut end = 0;
-    if size < SHORTEST {
+    if size < SHORTEST_LOG {
         return Ok(Scan { payloads, end });
     }
     let whole = Whole { file, size };
@@ -66,7 +66,7 @@ fn next_payload<D: Disk>(
     ensures not_full { (size : ℕ) → ¬ IsErrOf result (LogFault.LogFull size) }
     ensures piece { D.told → OnOk result (StandAt piece.new.bytes.items piece.new.from ((D.shows disk.old).seen whole.file)) }
     ensures rests { D.told → Rests (D.shows disk.old) (D.shows disk.new) }
-    ensures faults { HasCause result (D.faults disk.old) (D.faults disk.new) }
+    ensures faults { LogCause result (D.faults disk.old) (D.faults disk.new) }
     ensures failed { D.failed disk.new ≡ D.failed disk.old }
 {
     let left = whole.size - end;
@@ -93,11 +93,11 @@ fn payload_length(header: &[u8], left: u64) -> Result<Option<u32>, LogFault>
     if header[0] != OPEN {
         return Ok(None);
     }
-    if left < SHORTEST {
+    if left < SHORTEST_LOG {
         return Err(LogFault::BadLog);
     }
     let length = number_in(&header[1..]);
-    if left - SHORTEST < u64::from(length) {
+    if left - SHORTEST_LOG < u64::from(length) {
         return Err(LogFault::BadLog);
     }
     Ok(Some(length))

@@ -2,6 +2,7 @@
 use crate::{LogFault, append, begin, clear, scan};
 use sea_disk::{Disk, File, Fuse, MemDisk};
 use std::alloc::Global;
+use std::process::Abort;
 use std::test::Fail;
 
 // How many bytes the logs here may have at most.
@@ -31,21 +32,45 @@ fn found(alloc: Global, disk: &MemDisk, choice: u8) -> Result<usize, Fail> {
     Ok(scan(alloc, &mut image, File::Log0)?.payloads.len())
 }
 
+// Stops a test where an append whose call of this number fails doesn't leave so many payloads.
+fn fault_in_an_append(
+    rt: &impl Abort,
+    alloc: Global,
+    call: u64,
+    want: [usize; 3],
+) -> Result<(), Fail> {
+    let (mut disk, end) = two_records(alloc)?;
+    disk.fail(disk.calls().saturating_add(call))?;
+    let answer = append(alloc, &mut disk, File::Log0, end, b"new", MOST);
+    assert_eq!(rt; answer, Err(LogFault::DiskFault));
+    assert_eq!(rt; disk.faults(), 1);
+    assert_eq!(rt; left(alloc, &disk)?, want, "call {call}");
+    Ok(())
+}
+
 #[test]
 fn a_fault_in_an_append_leaves_the_list_with_the_payload_or_without(
     rt: HostRuntime,
 ) -> Result<(), Fail> {
-    let alloc = rt.alloc();
     // the write, its sync, the gate's write, its sync
-    let table = [[2, 2, 2], [2, 2, 2], [2, 2, 3], [2, 3, 3]];
-    for (after, want) in (1..).zip(table) {
-        let (mut disk, end) = two_records(alloc)?;
-        disk.fail(disk.calls().saturating_add(after))?;
-        let answer = append(alloc, &mut disk, File::Log0, end, b"new", MOST);
-        assert_eq!(rt; answer, Err(LogFault::DiskFault));
-        assert_eq!(rt; disk.faults(), 1);
-        assert_eq!(rt; left(alloc, &disk)?, want, "call {after}");
-    }
+    fault_in_an_append(&rt, rt.alloc(), 1, [2, 2, 2])?;
+    fault_in_an_append(&rt, rt.alloc(), 2, [2, 2, 2])?;
+    fault_in_an_append(&rt, rt.alloc(), 3, [2, 2, 3])?;
+    fault_in_an_append(&rt, rt.alloc(), 4, [2, 3, 3])
+}
+
+// Stops a test where an append that is stopped after so many calls doesn't leave so many payloads.
+fn stop_in_an_append(
+    rt: &impl Abort,
+    alloc: Global,
+    calls: u64,
+    want: [usize; 3],
+) -> Result<(), Fail> {
+    let (disk, end) = two_records(alloc)?;
+    let mut fuse = Fuse::over(disk, calls);
+    let answer = append(alloc, &mut fuse, File::Log0, end, b"new", MOST);
+    assert_eq!(rt; answer.is_ok(), calls == 4);
+    assert_eq!(rt; left(alloc, &fuse.into_disk())?, want, "stop {calls}");
     Ok(())
 }
 
@@ -53,43 +78,57 @@ fn a_fault_in_an_append_leaves_the_list_with_the_payload_or_without(
 fn a_stop_in_an_append_leaves_the_list_with_the_payload_or_without(
     rt: HostRuntime,
 ) -> Result<(), Fail> {
-    let alloc = rt.alloc();
-    let table = [[2, 2, 2], [2, 2, 2], [2, 2, 2], [2, 3, 3], [3, 3, 3]];
-    for (calls, want) in (0..).zip(table) {
-        let (disk, end) = two_records(alloc)?;
-        let mut fuse = Fuse::over(disk, calls);
-        let answer = append(alloc, &mut fuse, File::Log0, end, b"new", MOST);
-        assert_eq!(rt; answer.is_ok(), calls == 4);
-        assert_eq!(rt; left(alloc, &fuse.into_disk())?, want, "stop {calls}");
-    }
+    stop_in_an_append(&rt, rt.alloc(), 0, [2, 2, 2])?;
+    stop_in_an_append(&rt, rt.alloc(), 1, [2, 2, 2])?;
+    stop_in_an_append(&rt, rt.alloc(), 2, [2, 2, 2])?;
+    stop_in_an_append(&rt, rt.alloc(), 3, [2, 3, 3])?;
+    stop_in_an_append(&rt, rt.alloc(), 4, [3, 3, 3])
+}
+
+// Stops a test where a clear whose call of this number fails doesn't leave so many payloads.
+fn fault_in_a_clear(
+    rt: &impl Abort,
+    alloc: Global,
+    call: u64,
+    want: [usize; 3],
+) -> Result<(), Fail> {
+    let (mut disk, _) = two_records(alloc)?;
+    disk.fail(disk.calls().saturating_add(call))?;
+    let answer = clear(&mut disk, File::Log0);
+    assert_eq!(rt; answer, Err(LogFault::DiskFault));
+    assert_eq!(rt; left(alloc, &disk)?, want, "call {call}");
     Ok(())
 }
 
 #[test]
 fn a_fault_in_a_clear_leaves_the_list_or_none(rt: HostRuntime) -> Result<(), Fail> {
-    let alloc = rt.alloc();
     // the gate's write, its sync, the cut, its sync
-    let table = [[2, 2, 2], [2, 0, 2], [0, 0, 0], [0, 0, 0]];
-    for (after, want) in (1..).zip(table) {
-        let (mut disk, _) = two_records(alloc)?;
-        disk.fail(disk.calls().saturating_add(after))?;
-        let answer = clear(&mut disk, File::Log0);
-        assert_eq!(rt; answer, Err(LogFault::DiskFault));
-        assert_eq!(rt; left(alloc, &disk)?, want, "call {after}");
-    }
+    fault_in_a_clear(&rt, rt.alloc(), 1, [2, 2, 2])?;
+    fault_in_a_clear(&rt, rt.alloc(), 2, [2, 0, 2])?;
+    fault_in_a_clear(&rt, rt.alloc(), 3, [0, 0, 0])?;
+    fault_in_a_clear(&rt, rt.alloc(), 4, [0, 0, 0])
+}
+
+// Stops a test where a clear that is stopped after so many calls doesn't leave so many payloads.
+fn stop_in_a_clear(
+    rt: &impl Abort,
+    alloc: Global,
+    calls: u64,
+    want: [usize; 3],
+) -> Result<(), Fail> {
+    let (disk, _) = two_records(alloc)?;
+    let mut fuse = Fuse::over(disk, calls);
+    let answer = clear(&mut fuse, File::Log0);
+    assert_eq!(rt; answer.is_ok(), calls == 4);
+    assert_eq!(rt; left(alloc, &fuse.into_disk())?, want, "stop {calls}");
     Ok(())
 }
 
 #[test]
 fn a_stop_in_a_clear_leaves_the_list_or_none(rt: HostRuntime) -> Result<(), Fail> {
-    let alloc = rt.alloc();
-    let table = [[2, 2, 2], [2, 0, 2], [0, 0, 0], [0, 0, 0], [0, 0, 0]];
-    for (calls, want) in (0..).zip(table) {
-        let (disk, _) = two_records(alloc)?;
-        let mut fuse = Fuse::over(disk, calls);
-        let answer = clear(&mut fuse, File::Log0);
-        assert_eq!(rt; answer.is_ok(), calls == 4);
-        assert_eq!(rt; left(alloc, &fuse.into_disk())?, want, "stop {calls}");
-    }
-    Ok(())
+    stop_in_a_clear(&rt, rt.alloc(), 0, [2, 2, 2])?;
+    stop_in_a_clear(&rt, rt.alloc(), 1, [2, 0, 2])?;
+    stop_in_a_clear(&rt, rt.alloc(), 2, [0, 0, 0])?;
+    stop_in_a_clear(&rt, rt.alloc(), 3, [0, 0, 0])?;
+    stop_in_a_clear(&rt, rt.alloc(), 4, [0, 0, 0])
 }

@@ -1,6 +1,8 @@
 use crate::{LogFault, append, begin, clear, scan};
-use sea_disk::{Disk, File, FolderDisk};
+use sea_disk::{Disk, File, FolderDisk, MemDisk};
+use std::alloc::Global;
 use std::fs;
+use std::process::Abort;
 use std::test::Fail;
 
 // How many bytes a log may have at most.
@@ -10,10 +12,8 @@ const MOST: u64 = 268_435_456;
 fn one_record_is_read_as_it_stands(rt: HostRuntime) -> Result<(), Fail> {
     fs::create_dir_all(&rt, "vector")?;
     let mut disk = FolderDisk::open(&rt, rt.alloc(), "vector")?;
-    let bytes = [
-        1, 0, 0, 0, 19, 0, 0, 0, 0, 0, 0, 0, 7, 4, 0, 0, 0, 1, 0, 0, 0, 1, 1, 97, 0,
-    ];
-    disk.write_at(File::Log0, 0, &bytes)?;
+    let bytes = b"\x01\0\0\0\x13\0\0\0\0\0\0\0\x07\x04\0\0\0\x01\0\0\0\x01\x01a\0";
+    disk.write_at(File::Log0, 0, bytes)?;
     let found = scan(rt.alloc(), &mut disk, File::Log0)?;
     assert_eq!(rt; found.end, 24);
     assert_eq!(rt; found.payloads.len(), 1);
@@ -74,34 +74,42 @@ fn payloads_of_any_size_are_read_again(rt: HostRuntime) -> Result<(), Fail> {
     Ok(())
 }
 
+// A disk whose log has these bytes and nothing else.
+fn disk_with(alloc: Global, bytes: &[u8]) -> Result<MemDisk, Fail> {
+    let mut disk = MemDisk::blank(alloc)?;
+    disk.write_at(File::Log0, 0, bytes)?;
+    Ok(disk)
+}
+
+// Stops a test where these bytes aren't a log of so many records, with the gate behind them at `end`.
+fn is_list(
+    rt: &impl Abort,
+    alloc: Global,
+    bytes: &[u8],
+    count: usize,
+    end: u64,
+) -> Result<(), Fail> {
+    let found = scan(alloc, &mut disk_with(alloc, bytes)?, File::Log0)?;
+    assert_eq!(rt; (found.payloads.len(), found.end), (count, end));
+    Ok(())
+}
+
+// Stops a test where these bytes are a log.
+fn is_none(rt: &impl Abort, alloc: Global, bytes: &[u8]) -> Result<(), Fail> {
+    let found = scan(alloc, &mut disk_with(alloc, bytes)?, File::Log0);
+    assert!(rt; matches!(found, Err(LogFault::BadLog)));
+    Ok(())
+}
+
 #[test]
 fn files_that_hold_a_list_and_files_that_hold_none(rt: HostRuntime) -> Result<(), Fail> {
     let alloc = rt.alloc();
-    fs::create_dir_all(&rt, "files")?;
-    let mut disk = FolderDisk::open(&rt, alloc, "files")?;
-    let lists: [(&[u8], u64, usize); 5] = [
-        (&[], 0, 0),
-        (&[1, 0, 0, 0, 0], 0, 0),
-        (&[2, 0, 0, 0, 0, 9], 0, 0),
-        (&[1, 0, 0, 0, 0, 0], 5, 1),
-        (&[1, 0, 0, 0, 1, 97, 1, 0, 0, 0, 0, 255, 1], 11, 2),
-    ];
-    for (bytes, end, count) in lists {
-        disk.cut(File::Log0, 0)?;
-        disk.write_at(File::Log0, 0, bytes)?;
-        let found = scan(alloc, &mut disk, File::Log0)?;
-        assert_eq!(rt; (found.end, found.payloads.len()), (end, count));
-    }
-    let bad: [&[u8]; 3] = [
-        &[1, 0, 0, 0, 1, 97],
-        &[1, 0, 0, 0, 1, 97, 1, 0],
-        &[1, 255, 255, 255, 255, 97, 0],
-    ];
-    for bytes in bad {
-        disk.cut(File::Log0, 0)?;
-        disk.write_at(File::Log0, 0, bytes)?;
-        let found = scan(alloc, &mut disk, File::Log0);
-        assert!(rt; matches!(found, Err(LogFault::BadLog)));
-    }
-    Ok(())
+    is_list(&rt, alloc, b"", 0, 0)?;
+    is_list(&rt, alloc, b"\x01\0\0\0\0", 0, 0)?;
+    is_list(&rt, alloc, b"\x02\0\0\0\0\x09", 0, 0)?;
+    is_list(&rt, alloc, b"\x01\0\0\0\0\0", 1, 5)?;
+    is_list(&rt, alloc, b"\x01\0\0\0\x01a\x01\0\0\0\0\xff\x01", 2, 11)?;
+    is_none(&rt, alloc, b"\x01\0\0\0\x01a")?;
+    is_none(&rt, alloc, b"\x01\0\0\0\x01a\x01\0")?;
+    is_none(&rt, alloc, b"\x01\xff\xff\xff\xffa\0")
 }

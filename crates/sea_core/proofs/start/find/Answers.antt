@@ -31,3 +31,14 @@ returns-clause-ready g c told = c.in_ok-found.ensures.ready told (c.in_ok-settle
 
 pub returns-clause-gates : goal.returns-clause-gates
 returns-clause-gates g c told = gates_rest (c.read_base.ensures.rests told) (c.in_ok-settle.ensures.gates told)
+
+-- ---- the file `arch`
+
+pub returns-in_err-settle-clause-arch : goal.returns-in_err-settle-clause-arch
+returns-in_err-settle-clause-arch g c told = (c.settle.ensures.keeps told).arch
+
+pub returns-in_err-found-clause-arch : goal.returns-in_err-found-clause-arch
+returns-in_err-found-clause-arch g c told = (keeps_then (c.settle.ensures.keeps told) (keeps_rests (g.met.D.Disk.sound c.settle.new.disk) (c.read_base.ensures.rests told))).arch
+
+pub returns-clause-arch : goal.returns-clause-arch
+returns-clause-arch g c told = (keeps_then (c.settle.ensures.keeps told) (keeps_rests (g.met.D.Disk.sound c.settle.new.disk) (c.read_base.ensures.rests told))).arch

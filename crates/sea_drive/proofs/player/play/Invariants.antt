@@ -1,6 +1,6 @@
 use Rattle.std.proofs.Common.{◌≡◌}
 use Rattle.sea_drive.specs.Lines.{KeepsTotal}
-use Rattle.sea_drive.specs.Play.{IsCaused}
+use Rattle.sea_faults.specs.Counts.{IsCaused}
 use Rattle.sea_drive.specs.Reader.{place_of}
 use Rattle.sea_drive.specs.Turns.{Turns, CountsTurn, has_source_fault, has_sink_fault, turns_left}
 use Rattle.sea_drive.proofs.player.play.Given as goal

@@ -1,6 +1,6 @@
 use Rattle.std.proofs.Common.{Option, sym, subst}
 use Rattle.sea_drive.specs.Outcome.{is_disk_fault}
-use Rattle.sea_drive.specs.Play.{IsCaused}
+use Rattle.sea_faults.specs.Counts.{IsCaused}
 use Rattle.sea_drive.specs.declared.outcome.LineOutcome.{LineOutcome}
 use Rattle.sea_drive.proofs.Counts.{edit_counts}
 use Rattle.sea_drive.proofs.playing.edit.Goals as goal

@@ -83,3 +83,11 @@ returns-clause-sound g c told sound =
     let next : IsRecord c.as_slice.result.now (base.version + 1) c.args.entry = next_record c.texts_are_forms.ensures base c.in_ok-next.next c.args.entry c.as_slice.result.now c.requires.moment c.requires.user c.requires.form made is in
     let takes : TakesRecord base c.as_slice.result.now c.in_ok-next.next = record { entry = c.args.entry; is_record = next; applied = made } in
     c.keep.ensures.sound told takes sound
+
+-- ---- the file `arch`
+
+pub returns-in-Ok-clause-arch : goal.returns-in-Ok-clause-arch
+returns-in-Ok-clause-arch g c told sound = c.keep.ensures.arch told sound
+
+pub returns-clause-arch : goal.returns-clause-arch
+returns-clause-arch g c told sound = c.keep.ensures.arch told sound

@@ -1,5 +1,6 @@
 use Rattle.std.proofs.Common.{Ok, Err, refl, ap}
 use Rattle.sea_log.specs.Records.{size_with}
+use Rattle.sea_core.proofs.Alike.{arch_others}
 use Rattle.sea_core.proofs.Editing.{ready_if_sound, sound_if_ready, keep_leaves, keep_doubts, keep_ready, within_limit}
 use Rattle.sea_core.proofs.kept.Core.keep.Goals as goal
 
@@ -55,3 +56,25 @@ pub returns-in-Err-Memory-clause-any_moment : goal.returns-in-Err-Memory-clause-
 returns-in-Err-Memory-clause-any_moment g c told takes sound =
     let ready = ready_if_sound (g.D.Disk.shows c.args.self.now.disk) c.args.self.now.base c.args.self.now.doubt c.args.self.now.end c.requires sound in
     keep_leaves ready takes (c.append.ensures.any_moment told ready.payloads ready.log)
+
+-- ---- the file `arch`
+
+pub returns-in-Ok-clause-arch : goal.returns-in-Ok-clause-arch
+returns-in-Ok-clause-arch g c told sound =
+    let ready = ready_if_sound (g.D.Disk.shows c.args.self.now.disk) c.args.self.now.base c.args.self.now.doubt c.args.self.now.end c.requires sound in
+    arch_others (λ is. cc) (c.append.ensures.any_moment told ready.payloads ready.log).others
+
+pub returns-in-Err-DiskFault-clause-arch : goal.returns-in-Err-DiskFault-clause-arch
+returns-in-Err-DiskFault-clause-arch g c told sound =
+    let ready = ready_if_sound (g.D.Disk.shows c.args.self.now.disk) c.args.self.now.base c.args.self.now.doubt c.args.self.now.end c.requires sound in
+    arch_others (λ is. cc) (c.append.ensures.any_moment told ready.payloads ready.log).others
+
+pub returns-in-Err-LogFull-clause-arch : goal.returns-in-Err-LogFull-clause-arch
+returns-in-Err-LogFull-clause-arch g c told sound =
+    let ready = ready_if_sound (g.D.Disk.shows c.args.self.now.disk) c.args.self.now.base c.args.self.now.doubt c.args.self.now.end c.requires sound in
+    arch_others (λ is. cc) (c.append.ensures.any_moment told ready.payloads ready.log).others
+
+pub returns-in-Err-Memory-clause-arch : goal.returns-in-Err-Memory-clause-arch
+returns-in-Err-Memory-clause-arch g c told sound =
+    let ready = ready_if_sound (g.D.Disk.shows c.args.self.now.disk) c.args.self.now.base c.args.self.now.doubt c.args.self.now.end c.requires sound in
+    arch_others (λ is. cc) (c.append.ensures.any_moment told ready.payloads ready.log).others

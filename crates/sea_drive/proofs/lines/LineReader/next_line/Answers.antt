@@ -62,7 +62,7 @@ loop-line-preserved g c =
     let piece = c.in_ok-take_piece.ensures in
     let none = ltb-false _ _ (sym piece.ended ∙ c.if-branch-2.false) in record {
       gathered = Gathers-piece start reader.read after.read left (unread reader) (unread after) c.loop-line.line.items c.take_piece.new.line.items kept none piece.piece piece.rest piece.read piece.short;
-      same = c.in_ok-fetch.ensures.cause.kept ∙ c.loop-line.invariant.same;
+      same = c.in_ok-fetch.ensures.cause ∙ c.loop-line.invariant.same;
     }
 
 pub returns-clause-line : goal.returns-clause-line
