@@ -21,8 +21,6 @@ mod once;
 mod selection;
 mod shared;
 mod sizes;
-#[cfg(test)]
-mod tests;
 mod text_type;
 mod values;
 mod words;

@@ -16,8 +16,6 @@ mod reading;
 mod replaying;
 mod settling;
 mod start;
-#[cfg(test)]
-mod tests;
 
 pub use fault::{CoreFault, StartFault};
 pub use feeding::{Feed, FeedEntries, FeedEntry};

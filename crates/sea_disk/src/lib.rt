@@ -16,8 +16,6 @@ mod fuse;
 mod history;
 mod memory;
 mod plan;
-#[cfg(test)]
-mod tests;
 mod through;
 
 pub use disk::{Disk, Failed};

@@ -14,6 +14,3 @@ mod system;
 pub use memory::{FixedClock, MemSink, MemSource};
 pub use outside::{Clock, Failed, Sink, Source};
 pub use system::{StdSink, StdSource, SystemClock};
-
-#[cfg(test)]
-mod tests;

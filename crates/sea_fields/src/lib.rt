@@ -10,8 +10,6 @@ mod owned;
 mod put;
 mod span;
 mod take;
-#[cfg(test)]
-mod tests;
 
 pub use laws::{byte_rows_are_read_again, numbers_are_read_again};
 pub use owned::{Bytes, Slots};

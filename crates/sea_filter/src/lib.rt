@@ -7,7 +7,5 @@
 
 mod meeting;
 mod selecting;
-#[cfg(test)]
-mod tests;
 
 pub use selecting::{meets, selected};

@@ -13,8 +13,6 @@ mod links;
 mod pair;
 mod pair_index;
 mod row_numbers;
-#[cfg(test)]
-mod tests;
 
 pub use fault::{LinkFault, NoLink};
 pub use laws::both_sides_tell_the_same;

@@ -14,10 +14,6 @@ mod laws;
 mod list;
 mod piece;
 mod scanning;
-#[cfg(test)]
-mod stops;
-#[cfg(test)]
-mod tests;
 
 pub use appending::append;
 pub use beginning::begin;

@@ -36,34 +36,3 @@ pub fn nearest(minutes: i64) -> i64
 {
     minutes.clamp(FIRST, LAST)
 }
-
-#[cfg(test)]
-mod tests {
-    use super::*;
-
-    #[test]
-    fn ends_and_beyond(rt: HostRuntime) {
-        let rows = [
-            (i64::MIN, false, FIRST),
-            (FIRST - 1, false, FIRST),
-            (FIRST, true, FIRST),
-            (0, true, 0),
-            // 2024-01-01 00:00 UTC
-            (28_401_120, true, 28_401_120),
-            (LAST, true, LAST),
-            (LAST + 1, false, LAST),
-            (i64::MAX, false, LAST),
-        ];
-        for (minutes, inside, moment) in rows {
-            assert_eq!(rt; is_moment(minutes), inside, "at {minutes}");
-            assert_eq!(rt; nearest(minutes), moment, "at {minutes}");
-        }
-    }
-
-    #[test]
-    fn ends_by_the_calendar(rt: HostRuntime) {
-        // 719,162 days lie before 1970-01-01 from 0001-01-01, and 2,932,897 from it up to 10000-01-01.
-        assert_eq!(rt; FIRST, -719_162 * 1_440);
-        assert_eq!(rt; LAST, 2_932_897 * 1_440 - 1);
-    }
-}

@@ -16,8 +16,6 @@ mod reading;
 mod record;
 mod rows;
 mod straight;
-#[cfg(test)]
-mod tests;
 mod views;
 mod writing;
 

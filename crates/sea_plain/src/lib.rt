@@ -27,8 +27,6 @@ mod operation;
 mod refusal;
 mod seen;
 mod tables;
-#[cfg(test)]
-mod tests;
 mod viewed;
 mod viewing;
 

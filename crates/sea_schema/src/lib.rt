@@ -11,8 +11,6 @@ mod laws;
 mod links;
 mod schema;
 mod table;
-#[cfg(test)]
-mod tests;
 
 pub use laws::{links_have_two_ends, new_columns_have_their_keys};
 pub use links::is_link_among;

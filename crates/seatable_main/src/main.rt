@@ -77,16 +77,3 @@ fn open_folder<R: Files<File = File>>(
     fs::create_dir_all(rt, folder)?;
     FolderDisk::open(rt, alloc, folder)
 }
-
-#[cfg(test)]
-mod dumps;
-#[cfg(test)]
-mod feeds;
-#[cfg(test)]
-mod kept;
-#[cfg(test)]
-mod links;
-#[cfg(test)]
-mod operations;
-#[cfg(test)]
-mod tests;

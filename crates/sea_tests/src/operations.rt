@@ -1,0 +1,320 @@
+// Operations: the texts of those that no base takes, the plain base at the ends of its numbers, runs of entries, and the
+// check over a schema and the rows beside it.
+ghost use Rattle.std.specs.Prelude.{◌≡◌};
+
+use sea_cell::{ColKind, Moment, NewColumn, NewEnd, RowId, TableNo, Text, Texts};
+use sea_ops::{OpFault, RowsSeen, check, op_of_json, op_text};
+use sea_plain::{
+    Counter, Counters, Entries, Entry, OpRefusal, Plain, apply_plain, plain_named, run_plain,
+};
+use sea_schema::Schema;
+use std::alloc::{AllocError, Global};
+use std::process::Abort;
+use std::test::Fail;
+
+// Texts of operations, and behind an arrow the canonical one, where it is another.
+const TEXTS: &str =
+    r#"{"op":"append_rows","rows":[{"a":1,"b":-5,"c":18446744073709551615,"d":-9223372036854775808}],"table":"T"}
+{"op":"append_rows","rows":[{"a":1e2,"b":1.5,"c":18446744073709551616,"d":-0}],"table":"T"} -> {"op":"append_rows","rows":[{"a":{},"b":{},"c":{},"d":{}}],"table":"T"}
+{"op":"append_rows","rows":[{"e":{"x":[{}]},"f":[1],"g":1.0,"h":-9223372036854775809}],"table":"T"} -> {"op":"append_rows","rows":[{"e":{},"f":{},"g":{},"h":{}}],"table":"T"}
+{"op":"append_rows","rows":[{"a":"1","_id":"r","_a":"2","Z":"3"}],"table":"T"} -> {"op":"append_rows","rows":[{"Z":"3","_a":"2","_id":"r","a":"1"}],"table":"T"}
+{"to":"","table":"","op":"rename_table"} -> {"op":"rename_table","table":"","to":""}
+{"column":"S","op":"add_options","options":["red","red",""],"table":"T"}
+{"op":"modify_rows","rows":[{"_id":"no id at all"}],"table":"T"}
+{"ids":["a","a",""],"op":"delete_rows","table":"T"}
+{"op":"modify_view","table":"T","view":{"conjunction":"Or","filters":[{"column":"B","predicate":"is","term":1.5}],"name":"V"}} -> {"op":"modify_view","table":"T","view":{"conjunction":"Or","filters":[{"column":"B","predicate":"is","term":{}}],"name":"V"}}
+{"op":"insert_view","table":"T","view":{"conjunction":"Or","filters":[{"column":"M","predicate":"no such","term":["x","x"]}],"name":""}}
+{"op":"rename_table","table":"\u0054","to":"\"\\\/\b\f\n\r\t\u00e9"} -> {"op":"rename_table","table":"T","to":"\"\\/\b\f\n\r\té"}
+"#;
+
+// Stops a test where a text has another canonical one, or that one isn't its own.
+fn is_canonical(rt: &impl Abort, alloc: Global, text: &str, wanted: &str) -> Result<(), Fail> {
+    for one in [text, wanted] {
+        let canonical = op_text(alloc, &op_of_json(alloc, one.as_bytes())?)?;
+        assert!(rt; canonical.as_slice() == wanted.as_bytes(), "{text}");
+    }
+    Ok(())
+}
+
+#[test]
+fn operations_that_no_base_takes_have_a_canonical_text(rt: HostRuntime) -> Result<(), Fail> {
+    let alloc = rt.alloc();
+    for line in TEXTS.lines() {
+        let (text, wanted) = line.split_once(" -> ").unwrap_or((line, line));
+        is_canonical(&rt, alloc, text, wanted)?;
+    }
+    let no_text = op_of_json(alloc, b"{\"op\":\"delete_table\",\"table\":\"\xff\"}");
+    assert!(rt; matches!(no_text, Err(OpFault::BadOperation)));
+    Ok(())
+}
+
+fn counter_shown(counter: Counter) -> &'static str {
+    match counter {
+        Counter::Version => "version",
+        Counter::NextRow => "next_row",
+        Counter::NextTable => "next_table",
+        Counter::NextColumn => "next_column",
+        Counter::NextLink => "next_link",
+        Counter::Lsn => "lsn",
+    }
+}
+
+// A refusal as its name and the text or number that it has.
+fn refusal_shown(alloc: Global, refusal: &OpRefusal) -> Result<String, AllocError> {
+    match refusal {
+        OpRefusal::NumbersSpent { counter } => {
+            format!(in alloc; "NumbersSpent {}", counter_shown(*counter))
+        }
+        OpRefusal::NoTable { name } => format!(in alloc; "NoTable {}", name.as_str()),
+        OpRefusal::BadName { name } => format!(in alloc; "BadName {}", name.as_str()),
+        OpRefusal::DuplicateRow { id } => format!(in alloc; "DuplicateRow {}", id.as_str()),
+        OpRefusal::NoRow { id } => format!(in alloc; "NoRow {}", id.as_str()),
+        OpRefusal::TooMany { limit } => format!(in alloc; "TooMany {limit}"),
+        OpRefusal::LinkExists { id } => format!(in alloc; "LinkExists {}", id.as_str()),
+        OpRefusal::NoLink { id } => format!(in alloc; "NoLink {}", id.as_str()),
+        _ => format!(in alloc; "another"),
+    }
+}
+
+fn entry_of(alloc: Global, text: &str) -> Result<Entry, OpFault> {
+    Ok(Entry {
+        op: op_of_json(alloc, text.as_bytes())?,
+        moment: Moment(7),
+        user: Text::copy_of(alloc, "Ann")?,
+    })
+}
+
+// What comes of an operation on a base whose numbers are these.
+fn said(alloc: Global, base: &Plain, text: &str) -> Result<String, Fail> {
+    match apply_plain(alloc, base, &entry_of(alloc, text)?) {
+        Ok(_) => Ok(String::from_str(alloc, "done")?),
+        Err(refusal) => Ok(refusal_shown(alloc, &refusal)?),
+    }
+}
+
+// A word of a line, or the empty one behind its last.
+fn word<'a>(line: &'a str, at: usize) -> &'a str {
+    line.split(' ').nth(at).unwrap_or("")
+}
+
+// A base without tables whose version and next row, table, column and link are those of a line.
+fn base_of(alloc: Global, line: &str) -> Plain {
+    let mut base = Plain::new(alloc);
+    base.version = word(line, 0).parse::<u64>().unwrap_or(0);
+    base.next_row = word(line, 1).parse::<u64>().unwrap_or(0);
+    base.next_table = word(line, 2).parse::<u32>().unwrap_or(0);
+    base.next_column = word(line, 3).parse::<u32>().unwrap_or(0);
+    base.next_link = word(line, 4).parse::<u32>().unwrap_or(0);
+    base
+}
+
+// The numbers of bases, and what comes of three operations on each: a table of two columns, two rows, and a link column, each
+// of which is refused for something else where the numbers suffice.
+const NUMBERS: &str = "\
+4611686018427387903 4611686018427387902 4294967294 4294967293 4294967294 -> BadName _|NoTable _|NoTable V
+4611686018427387904 4611686018427387904 4294967295 4294967295 4294967295 -> NumbersSpent version|NumbersSpent version|NumbersSpent version
+0 4611686018427387903 4294967295 4294967294 4294967295 -> NumbersSpent next_table|NumbersSpent next_row|NumbersSpent next_column
+0 1 1 4294967294 1 -> NumbersSpent next_column|NoTable _|NumbersSpent next_column
+0 1 1 1 4294967295 -> BadName _|NoTable _|NumbersSpent next_link
+18446744073709551615 18446744073709551615 1 4294967295 1 -> NumbersSpent version|NumbersSpent version|NumbersSpent version
+";
+
+const SPENDING: &str =
+    r#"{"op":"insert_table","table":"_","columns":[{"name":"_","type":"text"},{"name":"_","type":"text"}]}
+{"op":"append_rows","table":"_","rows":[{"_id":"."},{}]}
+{"op":"insert_column","table":"U","column":{"name":"L","type":"link","other":"V","other_name":"R"}}"#;
+
+#[test]
+fn numbers_of_a_base_are_spent_in_their_order(rt: HostRuntime) -> Result<(), Fail> {
+    let alloc = rt.alloc();
+    for line in NUMBERS.lines() {
+        let (numbers, wanted) = line.split_once(" -> ").unwrap_or((line, ""));
+        let base = base_of(alloc, numbers);
+        for (text, refusal) in SPENDING.lines().zip(wanted.split('|')) {
+            let found = said(alloc, &base, text)?;
+            assert_eq!(rt; found.as_str(), refusal, "{text} at {numbers}");
+        }
+    }
+    Ok(())
+}
+
+// T with the rows r1 and x.
+const BEGINNING: &str =
+    r#"{"op":"insert_table","table":"T","columns":[{"name":"Name","type":"text"}]}
+{"op":"append_rows","table":"T","rows":[{"Name":"A"},{"_id":"x"}]}"#;
+
+fn entries_of(alloc: Global, lines: &str) -> Result<Entries, OpFault> {
+    let mut entries = Entries::new(alloc);
+    for line in lines.lines() {
+        entries.push(entry_of(alloc, line)?)?;
+    }
+    Ok(entries)
+}
+
+// Entries that append to T, one row for each letter, which is its id.
+fn appends(alloc: Global, letters: &str) -> Result<Entries, Fail> {
+    let mut entries = Entries::new(alloc);
+    for letter in letters.chars() {
+        let before = r#"{"op":"append_rows","table":"T","rows":[{"_id":""#;
+        entries.push(entry_of(
+            alloc,
+            format!(in alloc; "{before}{letter}\"}}]}}")?.as_str(),
+        )?)?;
+    }
+    Ok(entries)
+}
+
+// A base as its version, its next row, and the rows of T, each with its number and when it was made.
+fn base_shown(alloc: Global, base: &Plain) -> Result<String, AllocError> {
+    let mut all = format!(in alloc; "{} {}", base.version, base.next_row)?;
+    if let Some(plain) = plain_named(base.tables.as_slice(), "T") {
+        for row in plain.rows.get().as_slice() {
+            let row = row.get();
+            let id = row.id.0.as_str();
+            all.push_str(format!(in alloc; " {id}:{}:{}", row.number, row.made.0)?.as_str())?;
+        }
+    }
+    Ok(all)
+}
+
+// What comes of entries: the base after them, or the place of the first that is refused, with its refusal.
+fn run_said(alloc: Global, base: &Plain, entries: &Entries) -> Result<String, AllocError> {
+    match run_plain(alloc, base, entries) {
+        Ok(new) => base_shown(alloc, &new),
+        Err((at, refusal)) => {
+            let said = refusal_shown(alloc, &refusal)?;
+            format!(in alloc; "{at} {}", said.as_str())
+        }
+    }
+}
+
+// The ids of rows that are appended, and what comes of it.
+const RUNS: &str = " -> 2 3 r1:1:7 x:2:7
+ab -> 4 5 r1:1:7 x:2:7 a:3:7 b:4:7
+x -> 0 DuplicateRow x
+abxa -> 2 DuplicateRow x
+ab.a -> 2 BadName .
+";
+
+#[test]
+fn a_run_ends_at_the_first_entry_that_is_refused(rt: HostRuntime) -> Result<(), Fail> {
+    let alloc = rt.alloc();
+    let Ok(base) = run_plain(alloc, &Plain::new(alloc), &entries_of(alloc, BEGINNING)?) else {
+        return Err(Fail::from("an entry is refused"));
+    };
+    for line in RUNS.lines() {
+        let (letters, wanted) = line.split_once(" -> ").unwrap_or((line, ""));
+        let found = run_said(alloc, &base, &appends(alloc, letters)?)?;
+        assert_eq!(rt; found.as_str(), wanted, "{line}");
+    }
+    Ok(())
+}
+
+// Rows of which each id is one, or none is, and of which each two are linked, or no two are.
+#[derive(Drop)]
+struct Everything {
+    rows: bool,
+    links: bool,
+    pairs: u32,
+    version: u64,
+}
+
+impl RowsSeen for Everything {
+    ghost has_id = { λ seen _ _. seen.rows };
+
+    ghost are_linked = { λ seen _ _ _. seen.links };
+
+    ghost pair_count = { λ seen. seen.pairs };
+
+    ghost numbers = { λ seen. record { version = seen.version; row = 1; table = 3; column = 5; link = 2 } };
+
+    fn has(&self, _table: TableNo, _id: &RowId) -> bool {
+        self.rows
+    }
+
+    fn linked(&self, _link: u32, _a: &RowId, _b: &RowId) -> bool {
+        self.links
+    }
+
+    fn pairs(&self) -> u32 {
+        self.pairs
+    }
+
+    fn counters(&self) -> Counters {
+        Counters {
+            version: self.version,
+            row: 1,
+            table: 3,
+            column: 5,
+            link: 2,
+        }
+    }
+}
+
+// A column of a text column's form, or one that leads to a table.
+fn new_column(alloc: Global, name: &str, other: Option<NewEnd>) -> Result<NewColumn, AllocError> {
+    Ok(NewColumn {
+        name: Text::copy_of(alloc, name)?,
+        kind: if other.is_some() {
+            ColKind::Link
+        } else {
+            ColKind::Text
+        },
+        unit: Text::copy_of(alloc, "")?,
+        options: Texts::new(alloc),
+        other,
+    })
+}
+
+// T and U with a text column N each, and the link column L of T to U.
+fn two_tables(rt: &impl Abort, alloc: Global) -> Result<Schema, Fail> {
+    let mut schema = Schema::new(alloc);
+    for table in ["T", "U"] {
+        assert!(rt; schema.next_table() < 100 && schema.next_column() < 100);
+        schema.add_table(table, &[new_column(alloc, "N", None)?])?;
+    }
+    let end = NewEnd {
+        table: Text::copy_of(alloc, "U")?,
+        name: Text::copy_of(alloc, "R")?,
+    };
+    assert!(rt; schema.next_column() < 100 && schema.next_link() < 100);
+    schema.add_column("T", &new_column(alloc, "L", Some(end))?)?;
+    Ok(schema)
+}
+
+// What the rows are: whether each id is one, whether each two are linked, how many pairs there are, and the version. Behind a
+// bar an operation, and behind an arrow its refusal.
+const CHECKS: &str = r#"no no 0 0|{"op":"append_rows","table":"T","rows":[{"_id":"a"}]} -> passes
+yes no 0 0|{"op":"append_rows","table":"T","rows":[{"_id":"a"}]} -> DuplicateRow a
+yes no 0 0|{"op":"append_rows","table":"V","rows":[{"_id":"a"}]} -> NoTable V
+yes no 0 0|{"op":"delete_rows","table":"T","ids":["a"]} -> passes
+no no 0 0|{"op":"delete_rows","table":"T","ids":["a"]} -> NoRow a
+yes no 199999 0|{"op":"add_link","table":"T","column":"L","row":"a","others":["b"]} -> passes
+yes no 200000 0|{"op":"add_link","table":"T","column":"L","row":"a","others":["b"]} -> TooMany 200000
+yes yes 0 0|{"op":"add_link","table":"T","column":"L","row":"a","others":["b"]} -> LinkExists b
+yes yes 200000 0|{"op":"remove_link","table":"U","column":"R","row":"b","others":["a"]} -> passes
+yes no 0 0|{"op":"remove_link","table":"U","column":"R","row":"b","others":["a"]} -> NoLink a
+no no 0 4611686018427387904|{"op":"delete_rows","table":"T","ids":["a"]} -> NumbersSpent version
+"#;
+
+#[test]
+fn a_check_looks_at_the_rows_beside_a_schema(rt: HostRuntime) -> Result<(), Fail> {
+    let alloc = rt.alloc();
+    let schema = two_tables(&rt, alloc)?;
+    for line in CHECKS.lines() {
+        let (seen, rest) = line.split_once('|').unwrap_or((line, ""));
+        let (text, wanted) = rest.split_once(" -> ").unwrap_or((rest, ""));
+        let rows = Everything {
+            rows: word(seen, 0) == "yes",
+            links: word(seen, 1) == "yes",
+            pairs: word(seen, 2).parse::<u32>().unwrap_or(0),
+            version: word(seen, 3).parse::<u64>().unwrap_or(0),
+        };
+        let found = match check(alloc, &op_of_json(alloc, text.as_bytes())?, &schema, &rows) {
+            Ok(()) => String::from_str(alloc, "passes")?,
+            Err(refusal) => refusal_shown(alloc, &refusal)?,
+        };
+        assert_eq!(rt; found.as_str(), wanted, "{line}");
+    }
+    Ok(())
+}
