@@ -65,8 +65,7 @@ fn played<D: Disk>(alloc: Global, outside: Outside, disk: D) -> (Ended, D) {
 fn end_of(status: Status, sink: MemSink) -> Ended {
     let MemSink {
         taken,
-        fails: _,
-        calls: _,
+        plan: _,
         failed: _,
     } = sink;
     Ended {

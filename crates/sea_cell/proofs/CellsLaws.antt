@@ -11,7 +11,7 @@ use Rattle.sea_cell.specs.Cells.{IsAbove, IsRising, IsCells, IsFilled, cell_unde
 use Rattle.sea_cell.specs.declared.keys.ColKey.{ColKey}
 use Rattle.sea_cell.specs.declared.values.CellValue.{CellValue}
 use Rattle.sea_cell.specs.declared.values.CellValue.TheVariants.{Empty}
-use Rattle.sea_cell.specs.declared.cellular.Cell.{Cell}
+use Rattle.sea_cell.specs.declared.row.Cell.{Cell}
 
 -- a cell that is never read, for places past the end
 abbrev pub no_cell : Cell

@@ -1,3 +1,1 @@
 pub mod CellsLaws
-pub mod NamesLaws
-pub mod OnceLaws

@@ -4,11 +4,11 @@ use Rattle.std.specs.List.{find, AllByRecursion}
 use Rattle.sea_cell.specs.declared.keys.ColKey.{ColKey}
 use Rattle.sea_cell.specs.declared.values.CellValue.{CellValue}
 use Rattle.sea_cell.specs.declared.values.CellValue.TheVariants.{Empty, Moment}
-use Rattle.sea_cell.specs.declared.cellular.Cell.{Cell}
-use Rattle.sea_cell.specs.declared.cellular.Row.{Row}
-use Rattle.sea_cell.specs.declared.layout.ColKind.{ColKind}
-use Rattle.sea_cell.specs.declared.layout.ColKind.TheVariants as kind
-use Rattle.sea_cell.specs.declared.layout.Column.{Column}
+use Rattle.sea_cell.specs.declared.row.Cell.{Cell}
+use Rattle.sea_cell.specs.declared.row.Row.{Row}
+use Rattle.sea_cell.specs.declared.column.ColKind.{ColKind}
+use Rattle.sea_cell.specs.declared.column.ColKind.TheVariants as kind
+use Rattle.sea_cell.specs.declared.column.Column.{Column}
 
 -- each key is above this one
 abbrev pub IsAbove : ColKey → List Cell → Type 0

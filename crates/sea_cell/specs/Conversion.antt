@@ -5,11 +5,11 @@ use Rattle.serde_json.specs.Data.{Data, null, boolean, number, string, array}
 use Rattle.serde_json.specs.Find.{of_integer}
 use Rattle.serde_json.specs.View.{items_of}
 use Rattle.sea_moment.specs.Dates.{moment_of, moment_text}
-use Rattle.sea_cell.specs.Once.{is_among, once}
+use Rattle.sea_text.specs.Distinct.{is_among, once}
 use Rattle.sea_cell.specs.declared.keys.RowId.{RowId}
-use Rattle.sea_cell.specs.declared.layout.ColKind.{ColKind}
-use Rattle.sea_cell.specs.declared.layout.ColKind.TheVariants as kind
-use Rattle.sea_cell.specs.declared.layout.Column.{Column}
+use Rattle.sea_cell.specs.declared.column.ColKind.{ColKind}
+use Rattle.sea_cell.specs.declared.column.ColKind.TheVariants as kind
+use Rattle.sea_cell.specs.declared.column.Column.{Column}
 use Rattle.sea_cell.specs.declared.values.CellValue.{CellValue}
 use Rattle.sea_cell.specs.declared.values.CellValue.TheVariants as cell
 use Rattle.sea_cell.specs.declared.words.CellWord.{CellWord}

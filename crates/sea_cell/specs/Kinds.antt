@@ -4,8 +4,8 @@ use Rattle.std.specs.List.{find}
 use Rattle.std.specs.Str.{bytes_eq}
 use Rattle.sea_cell.specs.declared.kinds.Sort.{Sort}
 use Rattle.sea_cell.specs.declared.kinds.Sort.TheVariants as sort
-use Rattle.sea_cell.specs.declared.layout.ColKind.{ColKind}
-use Rattle.sea_cell.specs.declared.layout.ColKind.TheVariants as kind
+use Rattle.sea_cell.specs.declared.column.ColKind.{ColKind}
+use Rattle.sea_cell.specs.declared.column.ColKind.TheVariants as kind
 
 -- the word of each type
 abbrev pub word_of_kind : ColKind → List ℕ

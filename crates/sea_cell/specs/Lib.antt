@@ -1,9 +1,7 @@
 pub mod Answers
 pub mod Cells
 pub mod Conversion
-pub mod Fits
 pub mod Kinds
-pub mod Named
-pub mod Once
+pub mod Predicates
 pub mod Sizes
 pub mod Words

@@ -4,8 +4,8 @@ use Rattle.sea_moment.specs.Moment.{is_in_range}
 use Rattle.sea_cell.specs.Conversion.{is_amount}
 use Rattle.sea_cell.specs.declared.values.CellValue.{CellValue}
 use Rattle.sea_cell.specs.declared.values.CellValue.TheVariants.{Empty, Text, Number, Check, Moment, Choice, Choices, Names, Links}
-use Rattle.sea_cell.specs.declared.cellular.Cell.{Cell}
-use Rattle.sea_cell.specs.declared.cellular.Row.{Row}
+use Rattle.sea_cell.specs.declared.row.Cell.{Cell}
+use Rattle.sea_cell.specs.declared.row.Row.{Row}
 
 -- A text after this many bytes that stand before it. Four bytes hold its length, so it has fewer than 2 ^ 32.
 abbrev pub text_size : ℕ → List ℕ → Option ℕ

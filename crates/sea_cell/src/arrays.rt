@@ -6,7 +6,7 @@ ghost use Rattle.sea_cell.specs.Conversion.{texts_json as texts_json_of, ids_jso
 ghost use Rattle.sea_cell.specs.Words.{texts_of as texts_of_items};
 
 use crate::keys::RowId;
-use crate::text_type::{Text, Texts};
+use sea_text::{Text, Texts};
 use serde_json::Value;
 use std::alloc::{AllocError, Global};
 

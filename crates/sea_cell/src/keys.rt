@@ -1,9 +1,7 @@
 // What columns, tables and rows are known by, and moments.
 ghost use Rattle.std.specs.Prelude.{◌≡◌, IfOk};
 
-use crate::duplicate::Duplicate;
-use crate::indexed::Named;
-use crate::text_type::Text;
+use sea_text::{Duplicate, Named, Text};
 use sqlite_items::Items;
 use std::alloc::{AllocError, Global};
 

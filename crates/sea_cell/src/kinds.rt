@@ -1,9 +1,9 @@
 // The types of columns by their words.
 ghost use Rattle.std.specs.Prelude.{◌≡◌, Some};
-ghost use Rattle.sea_cell.specs.declared.layout.ColKind.{ColKind};
+ghost use Rattle.sea_cell.specs.declared.column.ColKind.{ColKind};
 ghost use Rattle.sea_cell.specs.Kinds.{word_of_kind, kind_of, sort_of_kind, has_options as has_options_of};
 
-use crate::layout::ColKind;
+use crate::column::ColKind;
 
 /// What the values of a column are, whatever its type: as which a statement compares and orders them.
 #[derive(Clone, Copy)]

@@ -3,10 +3,10 @@ ghost use Rattle.std.specs.Prelude.{◌≡◌, ◌+◌, ◌*◌, ◌^◌, ◌≤
 ghost use Rattle.sea_cell.specs.Sizes.{row_bytes_of, row_size, cells_size as cells_size_of, cell_size as cell_size_of, text_size as text_size_of, list_size as list_size_of, texts_size as texts_size_of};
 
 use crate::amounts::is_amount;
-use crate::cellular::{Cell, Row};
-use crate::text_type::Text;
+use crate::row::{Cell, Row};
 use crate::values::CellValue;
 use sea_moment::is_moment;
+use sea_text::Text;
 
 /// The length of the row's encoding in bytes, or 2^64 - 1 where it has none. docs/formats.md says how a row is
 /// encoded. It has no encoding where a moment lies outside the years 1 to 9999, a number's absolute value is above

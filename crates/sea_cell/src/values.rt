@@ -1,9 +1,8 @@
 // The values of cells.
 ghost use Rattle.std.specs.Prelude.{◌≡◌, IfOk};
 
-use crate::duplicate::Duplicate;
 use crate::keys::{Ids, Moment};
-use crate::text_type::{Text, Texts};
+use sea_text::{Duplicate, Text, Texts};
 use std::alloc::{AllocError, Global};
 
 /// The value of a cell.

@@ -4,7 +4,7 @@ ghost use Rattle.serde_json.specs.View.{view};
 ghost use Rattle.sea_cell.specs.Words.{word_of};
 
 use crate::arrays::texts_of;
-use crate::text_type::{Text, Texts};
+use sea_text::{Text, Texts};
 use serde_json::Value;
 use std::alloc::{AllocError, Global};
 

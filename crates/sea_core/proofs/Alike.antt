@@ -7,7 +7,7 @@ use Rattle.sea_disk.specs.Calls.{After, OthersStay, Turns, Rests}
 use Rattle.sea_disk.specs.Runs.{Works}
 use Rattle.sea_disk.specs.Composition.{leaves_weaker, leaves_then, rests_leaves, turns_works, works_leaves}
 use Rattle.sea_log.specs.Records.{HoldsList}
-use Rattle.sea_plain.specs.declared.base.Plain.{Plain}
+use Rattle.sea_operation.specs.declared.base.Plain.{Plain}
 use Rattle.sea_core.specs.Stands.{IsClosedBase, StandsFor, StandAlike, KeepsStanding}
 use Rattle.sea_core.specs.Steps.{ArchStays, Keeps, IsAllSettled}
 

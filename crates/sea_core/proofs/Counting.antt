@@ -3,8 +3,8 @@ use Rattle.std.proofs.Common.{◌≡◌, ◌++◌, ◌<◌, ℕ, suc, ◌+◌, �
 use Rattle.std.proofs.lemmas.Bool.Decides.{nat_tests}
 use Rattle.std.proofs.lemmas.List.{length-take, length-drop, get_or-take, get_or-drop}
 use Rattle.std.proofs.lemmas.Option.{slice_get_within, get_or_from_slice_get, slice_get-get_or}
-use Rattle.sea_plain.specs.declared.base.Plain.{Plain}
-use Rattle.sea_plain.specs.declared.operation.Entry.{Entry}
+use Rattle.sea_operation.specs.declared.base.Plain.{Plain}
+use Rattle.sea_operation.specs.declared.operation.Entry.{Entry}
 use Rattle.sea_core.specs.declared.fault.CoreFault.{CoreFault}
 use Rattle.sea_core.specs.declared.fault.CoreFault.TheVariants as edit
 use Rattle.sea_core.specs.declared.feeding.Feed.{Feed}

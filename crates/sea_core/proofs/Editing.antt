@@ -12,12 +12,12 @@ use Rattle.sea_log.specs.Images.{IsClosedInImages}
 use Rattle.sea_log.specs.Records.{HoldsWithOrWithout, size_with}
 use Rattle.sea_moment.specs.Moment.{IsMoment}
 use Rattle.sea_ops.specs.Operations.{op_of}
-use Rattle.sea_ops.specs.Record.{record_of, IsRecord}
+use Rattle.sea_record.specs.Record.{record_of, IsRecord}
 use Rattle.sea_ops.specs.Texts.{text_of}
-use Rattle.sea_plain.specs.declared.base.Plain.{Plain}
-use Rattle.sea_plain.specs.declared.operation.Entry.{Entry}
-use Rattle.sea_plain.specs.declared.operation.Op.{Op}
-use Rattle.sea_plain.specs.Apply.{apply}
+use Rattle.sea_operation.specs.declared.base.Plain.{Plain}
+use Rattle.sea_operation.specs.declared.operation.Entry.{Entry}
+use Rattle.sea_operation.specs.declared.operation.Op.{Op}
+use Rattle.sea_operation.specs.Apply.{apply}
 use Rattle.sea_core.specs.declared.fault.CoreFault.{CoreFault}
 use Rattle.sea_core.specs.declared.fault.CoreFault.TheVariants as edit
 use Rattle.sea_core.specs.declared.kept.Core.{Core}

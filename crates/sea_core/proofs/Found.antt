@@ -6,7 +6,7 @@ use Rattle.sea_disk.specs.Calls.{Rests}
 use Rattle.sea_log.specs.declared.fault.LogFault.{LogFault}
 use Rattle.sea_log.specs.declared.fault.LogFault.TheVariants as log
 use Rattle.sea_log.specs.Records.{IsLog, IsClosedAt, HoldsList}
-use Rattle.sea_plain.specs.declared.base.Plain.{Plain}
+use Rattle.sea_operation.specs.declared.base.Plain.{Plain}
 use Rattle.sea_core.specs.declared.fault.StartFault.TheVariants.{NotABase}
 use Rattle.sea_core.specs.Sound.{IsReady}
 use Rattle.sea_core.specs.Stands.{IsClosedBase, Makes, StandsFor}

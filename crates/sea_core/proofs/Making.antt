@@ -3,14 +3,14 @@ use Rattle.std.proofs.Common.{◌≡◌, ◌≢◌, ℕ, suc, ◌+◌, ◌<◌, 
 use Rattle.std.proofs.Math.Seq.{drop-cons}
 use Rattle.std.proofs.lemmas.List.{drop_all}
 use Rattle.sea_cell.specs.declared.keys.Moment.{Moment}
-use Rattle.sea_plain.specs.declared.base.Plain.{Plain}
-use Rattle.sea_plain.specs.declared.operation.Entry.{Entry}
-use Rattle.sea_plain.specs.declared.operation.Op.{Op}
-use Rattle.sea_plain.specs.declared.refusal.OpRefusal.{OpRefusal}
-use Rattle.sea_plain.specs.Base.{empty_base}
-use Rattle.sea_plain.specs.Apply.{applied, apply, unless_refused, after_result, after_from}
-use Rattle.sea_plain.specs.Refusal.{refusal_of}
-use Rattle.sea_ops.specs.Record.{IsRecord}
+use Rattle.sea_operation.specs.declared.base.Plain.{Plain}
+use Rattle.sea_operation.specs.declared.operation.Entry.{Entry}
+use Rattle.sea_operation.specs.declared.operation.Op.{Op}
+use Rattle.sea_operation.specs.declared.refusal.OpRefusal.{OpRefusal}
+use Rattle.sea_operation.specs.Base.{empty_base}
+use Rattle.sea_operation.specs.Apply.{applied, apply, unless_refused, after_result, after_from}
+use Rattle.sea_operation.specs.Refusal.{refusal_of}
+use Rattle.sea_record.specs.Record.{IsRecord}
 use Rattle.sea_core.specs.Stands.{AreRecords, Makes}
 use Rattle.sea_core.specs.Taking.{TakesRecord}
 

@@ -2,7 +2,7 @@
 use Rattle.std.proofs.Common.{◌≡◌, ℕ, ◌+◌, ◌<◌, List, [], ◌∷◌, ◌++◌, length, take, get_or, add-one, sym, ap, ◌∙◌, arith}
 use Rattle.std.proofs.Math.Seq.{take-suc}
 use Rattle.std.proofs.lemmas.List.{length-take}
-use Rattle.sea_plain.specs.declared.operation.Entry.{Entry}
+use Rattle.sea_operation.specs.declared.operation.Entry.{Entry}
 use Rattle.sea_core.specs.declared.feeding.FeedEntry.{FeedEntry}
 use Rattle.sea_core.specs.Feeding.{numbered}
 

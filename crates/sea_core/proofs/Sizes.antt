@@ -3,8 +3,8 @@ use Rattle.std.proofs.Common.{◌≡◌, ℕ, ◌+◌, ◌<◌, inl, inr, List, 
 use Rattle.std.specs.Int.{w32, w64, to_be_bytes}
 use Rattle.sea_fields.specs.Fields.{led}
 use Rattle.sea_log.specs.Records.{size_with}
-use Rattle.sea_plain.specs.declared.operation.Entry.{Entry}
-use Rattle.sea_ops.specs.Record.{entry_kind, minutes_of, record_bytes, record_of, IsTooLong}
+use Rattle.sea_operation.specs.declared.operation.Entry.{Entry}
+use Rattle.sea_record.specs.Record.{entry_kind, minutes_of, record_bytes, record_of, IsTooLong}
 use Rattle.sea_ops.specs.Texts.{text_of}
 
 -- the length of a byte row with its length in front

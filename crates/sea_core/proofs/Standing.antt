@@ -3,7 +3,7 @@ use Rattle.std.proofs.Common.{◌≡◌, ℕ, List, subst}
 use Rattle.sea_disk.specs.declared.file.File.TheVariants.{Log0}
 use Rattle.sea_disk.specs.Shown.{Files}
 use Rattle.sea_log.specs.Records.{IsLog}
-use Rattle.sea_plain.specs.declared.base.Plain.{Plain}
+use Rattle.sea_operation.specs.declared.base.Plain.{Plain}
 use Rattle.sea_core.specs.Stands.{Makes, StandsFor}
 use Rattle.sea_core.proofs.Making.{HaveOneEntry, one_made}
 

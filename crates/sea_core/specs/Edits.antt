@@ -1,9 +1,9 @@
 -- What an edit answers, and what it makes of a core.
 use Rattle.std.specs.Prelude.{◌≡◌, ℕ, ◌+◌, ◌<◌, ◌≤◌, [], ◌∷◌, ◌++◌, Some, None, Result, Ok, Err, IsOk}
 use Rattle.sea_log.specs.Records.{size_with}
-use Rattle.sea_ops.specs.Record.{record_of}
-use Rattle.sea_plain.specs.declared.operation.Entry.{Entry}
-use Rattle.sea_plain.specs.Apply.{apply}
+use Rattle.sea_record.specs.Record.{record_of}
+use Rattle.sea_operation.specs.declared.operation.Entry.{Entry}
+use Rattle.sea_operation.specs.Apply.{apply}
 use Rattle.sea_core.specs.declared.kept.Core.{Core}
 use Rattle.sea_core.specs.declared.kept.Doubt.{Doubt}
 use Rattle.sea_core.specs.declared.fault.CoreFault.{CoreFault}

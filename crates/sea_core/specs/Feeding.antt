@@ -1,6 +1,6 @@
 -- What a feed gives: the entries that were accepted since the opening, by the versions that they made.
 use Rattle.std.specs.Prelude.{◌≡◌, ℕ, ◌+◌, ◌-◌, nat_lt, List, [], ◌∷◌, length, take, drop, slice_get, if◌then◌else◌, Option, Result, Ok, Err}
-use Rattle.sea_plain.specs.declared.operation.Entry.{Entry}
+use Rattle.sea_operation.specs.declared.operation.Entry.{Entry}
 use Rattle.sea_core.specs.declared.fault.CoreFault.{CoreFault}
 use Rattle.sea_core.specs.declared.fault.CoreFault.TheVariants.{FeedGone, FeedAhead}
 use Rattle.sea_core.specs.declared.feeding.Feed.{Feed}

@@ -1,7 +1,7 @@
 -- What an edit makes of a core once its record is made, for private clauses.
 use Rattle.std.specs.Prelude.{◌≡◌, ℕ, ◌<◌, ◌≤◌, List, Some, None, Result, Ok, Err}
 use Rattle.sea_log.specs.Records.{size_with}
-use Rattle.sea_plain.specs.declared.base.Plain.{Plain}
+use Rattle.sea_operation.specs.declared.base.Plain.{Plain}
 use Rattle.sea_core.specs.declared.fault.CoreFault.{CoreFault}
 use Rattle.sea_core.specs.declared.fault.CoreFault.TheVariants as core
 use Rattle.sea_core.specs.declared.kept.Core.{Core}

@@ -3,11 +3,11 @@ use Rattle.std.specs.Prelude.{◌≡◌, ◌≢◌, ◌⊎◌, ℕ, ◌+◌, ◌
 use Rattle.sea_disk.specs.declared.file.File.TheVariants.{Base0, Base1, Log0, Log1}
 use Rattle.sea_disk.specs.Shown.{Files, Shown, IsImage}
 use Rattle.sea_log.specs.Records.{HoldsList}
-use Rattle.sea_plain.specs.declared.base.Plain.{Plain}
-use Rattle.sea_plain.specs.declared.operation.Entry.{Entry}
-use Rattle.sea_plain.specs.Base.{empty_base}
-use Rattle.sea_plain.specs.Apply.{after}
-use Rattle.sea_ops.specs.Record.{IsRecord}
+use Rattle.sea_operation.specs.declared.base.Plain.{Plain}
+use Rattle.sea_operation.specs.declared.operation.Entry.{Entry}
+use Rattle.sea_operation.specs.Base.{empty_base}
+use Rattle.sea_operation.specs.Apply.{after}
+use Rattle.sea_record.specs.Record.{IsRecord}
 
 -- a base file is open where it has at least 17 bytes and the first is 1
 abbrev pub IsClosedBase : List ℕ → Type 0

@@ -1,11 +1,11 @@
 -- What the parts of a replay, of an edit and of a start say, for private clauses.
 use Rattle.std.specs.Prelude.{◌≡◌, ℕ, ◌+◌, ◌^◌, ◌<◌, ◌≤◌, List, length, Result, Ok, Err}
 use Rattle.sea_log.specs.Records.{size_with}
-use Rattle.sea_ops.specs.Record.{record_of, IsRecord}
+use Rattle.sea_record.specs.Record.{record_of, IsRecord}
 use Rattle.sea_ops.specs.Texts.{text_of}
-use Rattle.sea_plain.specs.declared.base.Plain.{Plain}
-use Rattle.sea_plain.specs.declared.operation.Entry.{Entry}
-use Rattle.sea_plain.specs.Apply.{apply}
+use Rattle.sea_operation.specs.declared.base.Plain.{Plain}
+use Rattle.sea_operation.specs.declared.operation.Entry.{Entry}
+use Rattle.sea_operation.specs.Apply.{apply}
 use Rattle.sea_core.specs.declared.fault.CoreFault.{CoreFault}
 use Rattle.sea_core.specs.declared.fault.CoreFault.TheVariants as core
 use Rattle.sea_core.specs.declared.fault.StartFault.{StartFault}

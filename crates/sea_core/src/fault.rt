@@ -1,7 +1,7 @@
 // Why a core refuses a call.
 use sea_disk::Failed;
 use sea_log::LogFault;
-use sea_plain::OpRefusal;
+use sea_operation::OpRefusal;
 use std::alloc::AllocError;
 use thiserror::Error;
 

@@ -6,7 +6,7 @@ use crate::fault::CoreFault;
 use crate::kept::Core;
 use sea_cell::{Duplicate, Shared};
 use sea_disk::Disk;
-use sea_plain::Entry;
+use sea_operation::Entry;
 use sqlite_items::Items;
 use std::alloc::{AllocError, Global};
 

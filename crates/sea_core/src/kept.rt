@@ -10,8 +10,8 @@ use crate::preparing::{next_base, record_of_next};
 use sea_cell::Shared;
 use sea_disk::{Disk, File};
 use sea_log::{LogFault, append};
+use sea_operation::{Entry, Plain};
 use sea_ops::texts_are_forms;
-use sea_plain::{Entry, Plain};
 use sqlite_items::Items;
 use std::alloc::Global;
 

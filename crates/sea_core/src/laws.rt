@@ -1,8 +1,8 @@
 // What files stand for is one base, and each version since the opening has its entry.
 ghost use Rattle.std.specs.Prelude.{◌≡◌, ◌+◌, ◌-◌, ℕ, length, min, slice_get, Some, Result, Ok};
 ghost use Rattle.sea_disk.specs.Shown.{Files};
-ghost use Rattle.sea_plain.specs.declared.base.Plain.{Plain};
-ghost use Rattle.sea_plain.specs.declared.operation.Entry.{Entry};
+ghost use Rattle.sea_operation.specs.declared.base.Plain.{Plain};
+ghost use Rattle.sea_operation.specs.declared.operation.Entry.{Entry};
 ghost use Rattle.sea_core.specs.declared.fault.CoreFault.{CoreFault};
 ghost use Rattle.sea_core.specs.declared.feeding.Feed.{Feed};
 ghost use Rattle.sea_core.specs.declared.feeding.FeedEntry.{FeedEntry};
@@ -13,7 +13,7 @@ ghost use Rattle.sea_core.specs.Stands.{StandsFor};
 
 use sea_disk::Disk;
 use sea_log::one_list_at_most;
-use sea_ops::records_have_one_entry;
+use sea_record::records_have_one_entry;
 
 /// Five files stand for at most one base.
 pub fn one_base_at_most()

@@ -2,16 +2,18 @@
 ghost use Rattle.std.specs.Prelude.{◌≡◌, ◌≢◌, ℕ, Ok, Err, IfOk, MatchResult};
 ghost use Rattle.sea_log.specs.Records.{size_with};
 ghost use Rattle.sea_moment.specs.Moment.{IsMoment};
-ghost use Rattle.sea_ops.specs.Record.{record_of};
-ghost use Rattle.sea_plain.specs.declared.base.Plain.{Plain};
-ghost use Rattle.sea_plain.specs.declared.operation.Entry.{Entry};
-ghost use Rattle.sea_plain.specs.Apply.{apply};
+ghost use Rattle.sea_record.specs.Record.{record_of};
+ghost use Rattle.sea_operation.specs.declared.base.Plain.{Plain};
+ghost use Rattle.sea_operation.specs.declared.operation.Entry.{Entry};
+ghost use Rattle.sea_operation.specs.Apply.{apply};
 ghost use Rattle.sea_core.specs.Taking.{IsRefusedBy, IsRecordOf, IsTooLarge};
 
 use crate::fault::CoreFault;
 use sea_fields::Bytes;
-use sea_ops::{op_text, record_of_entry};
-use sea_plain::{Entry, OpRefusal, Plain, apply_plain};
+use sea_operation::{Entry, OpRefusal, Plain};
+use sea_ops::op_text;
+use sea_plain::apply_plain;
+use sea_record::record_of_entry;
 use std::alloc::{AllocError, Global};
 
 // How many bytes a record has beside its user and its text, with the gates before it and behind it.

@@ -3,7 +3,7 @@ ghost use Rattle.std.specs.Prelude.{◌≡◌, ℕ, List, [], IfOk, IsErrOf, OnO
 ghost use Rattle.sea_disk.specs.Calls.{Rests};
 ghost use Rattle.sea_disk.specs.declared.file.File.TheVariants.{Log0};
 ghost use Rattle.sea_log.specs.Records.{IsLog, HoldsList};
-ghost use Rattle.sea_plain.specs.declared.base.Plain.{Plain};
+ghost use Rattle.sea_operation.specs.declared.base.Plain.{Plain};
 ghost use Rattle.sea_core.specs.Gates.{HasGate};
 ghost use Rattle.sea_core.specs.Sound.{IsReady};
 ghost use Rattle.sea_core.specs.Stands.{IsClosedBase, StandsFor};
@@ -15,7 +15,7 @@ use crate::replaying::replay;
 use crate::settling::SHORTEST_BASE;
 use sea_disk::{Disk, File};
 use sea_log::{OPEN, Scan, one_list_at_most, scan};
-use sea_plain::Plain;
+use sea_operation::Plain;
 use std::alloc::Global;
 
 /// The base that the files stand for, and the place of the gate that ends its log.

@@ -1,14 +1,15 @@
 // Replaying a log.
 ghost use Rattle.std.specs.Prelude.{◌≡◌, ◌≢◌, Ok, IfOk, IsErr, IsErrOf, MatchResult};
-ghost use Rattle.sea_plain.specs.declared.base.Plain.{Plain};
-ghost use Rattle.sea_plain.specs.Apply.{apply};
+ghost use Rattle.sea_operation.specs.declared.base.Plain.{Plain};
+ghost use Rattle.sea_operation.specs.Apply.{apply};
 ghost use Rattle.sea_core.specs.Stands.{Makes};
 ghost use Rattle.sea_core.specs.Taking.{TakesRecord};
 
 use crate::fault::StartFault;
 use sea_fields::Bytes;
-use sea_ops::{entry_of_record, records_have_one_entry};
-use sea_plain::{Entry, OpRefusal, Plain, apply_plain};
+use sea_operation::{Entry, OpRefusal, Plain};
+use sea_plain::apply_plain;
+use sea_record::{entry_of_record, records_have_one_entry};
 use std::alloc::Global;
 
 /// The base that the payloads of a log make. NotABase exactly where they make none.

@@ -1,7 +1,7 @@
 // Starting a base from a disk.
 ghost use Rattle.std.specs.Prelude.{◌≡◌, ◌≤◌, [], None, IfOk, IfErr, IsErrOf, MatchResult};
 ghost use Rattle.sea_disk.specs.Runs.{Leaves};
-ghost use Rattle.sea_plain.specs.declared.base.Plain.{Plain};
+ghost use Rattle.sea_operation.specs.declared.base.Plain.{Plain};
 ghost use Rattle.sea_core.specs.declared.fault.StartFault.TheVariants.{NotABase};
 ghost use Rattle.sea_core.specs.Causes.{StartCause};
 ghost use Rattle.sea_core.specs.Gates.{AreGatesLaid};
@@ -16,7 +16,7 @@ use crate::limits::Limits;
 use crate::reading::read_base;
 use crate::settling::settle;
 use sea_disk::Disk;
-use sea_plain::Plain;
+use sea_operation::Plain;
 use sqlite_items::Items;
 use std::alloc::Global;
 

@@ -1,5 +1,5 @@
 -- What one call does to a disk.
-use Rattle.std.specs.Prelude.{◌≡◌, ◌≢◌, ◌⊎◌, ℕ, ◌+◌, ◌-◌, ◌≤◌, min, max, List, ◌++◌, length, take, drop, replicate, Bool}
+use Rattle.std.specs.Prelude.{◌≡◌, ◌≢◌, ◌⊎◌, ℕ, ◌+◌, ◌-◌, ◌≤◌, min, max, List, ◌++◌, length, take, drop, replicate}
 use Rattle.sea_disk.specs.declared.file.File.{File}
 use Rattle.sea_disk.specs.Shown.{Files, Shown, IsImage}
 
@@ -50,9 +50,3 @@ pub record Rests (old new : Shown) : Type 0 where
   pub later : old.moment ≤ new.moment
   pub since : (moment : ℕ) (files : Files) → moment ≤ old.moment → new.since moment files → old.since moment files
   pub keeps : (moment : ℕ) (files : Files) → moment ≤ old.moment → old.since moment files → new.since moment files
-
--- ---- faults that are known beforehand
-
--- with each call those that come after it stand one place further to the front
-abbrev pub AreNext : (ℕ → Bool) → (ℕ → Bool) → Type 0
-AreNext old new = (place : ℕ) → new place ≡ old (place + 1)

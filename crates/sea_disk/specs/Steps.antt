@@ -1,20 +1,12 @@
--- How the disks for tests go on from call to call: which calls are to fail, and what each call leaves of them.
-use Rattle.std.specs.Prelude.{◌≡◌, ◌≢◌, ◌⊎◌, ℕ, ◌+◌, ◌-◌, min, List, [], ◌∷◌, ◌++◌, Bool, true, false}
-use Rattle.sea_faults.specs.Counts.{last_count, one_more, counted_on, is_listed}
+-- How the disks for tests go on from call to call.
+use Rattle.std.specs.Prelude.{◌≡◌, ◌≢◌, ◌⊎◌, ◌-◌, List, [], ◌∷◌, ◌++◌, Bool, true, false}
+use Rattle.sea_faults.specs.Counts.{counted_on}
+use Rattle.sea_faults.specs.Plans.{after_call}
 use Rattle.sea_disk.specs.declared.calls.Act.{Act}
 use Rattle.sea_disk.specs.declared.calls.Act.TheVariants.{Write, FailedWrite, Cut, FailedCut, Sync}
 use Rattle.sea_disk.specs.declared.calls.Call.{Call}
 use Rattle.sea_disk.specs.declared.fuse.Fuse.{Fuse}
 use Rattle.sea_disk.specs.declared.memory.MemDisk.{MemDisk}
-use Rattle.sea_disk.specs.declared.plan.Plan.{Plan}
-
--- with one call more
-abbrev pub after_call : Plan → Plan
-after_call plan = record plan { made = one_more plan.made }
-
--- the call at this place among those to come is listed by its number
-abbrev pub is_due : Plan → ℕ → Bool
-is_due plan place = is_listed plan.fails (min (plan.made + (place + 1)) last_count)
 
 -- the call failed
 abbrev pub has_failed : Act → Bool
@@ -32,7 +24,7 @@ Records failed old new = (new ≡ old) ⊎ ((call : Call) × (new ≡ old ++ cal
 -- one call of a disk in memory: it is counted, and so is its fault
 pub record MemSteps (old new : MemDisk) (failed : Bool) : Type 0 where
   pub made : new.plan ≡ after_call old.plan
-  pub faults : new.failed ≡ counted_on failed old.failed
+  pub faults : new.faults.all ≡ counted_on failed old.faults.all
   pub calls : Records failed old.history.calls new.history.calls
 
 -- One call of a fuse: it reaches the disk where one is still passed on, and else leaves it alone.

@@ -1,16 +1,12 @@
 // The trait of disks.
 ghost use Rattle.std.specs.Prelude.{◌≡◌, ◌+◌, ◌≤◌, ◌<◌, ◌^◌, ℕ, Bool, true, false, length, take, drop, is_err, IfOk, OnOk, MatchResult};
 ghost use Rattle.sea_faults.specs.Counts.{HasCause};
+ghost use Rattle.sea_faults.specs.Plans.{AreNext};
 ghost use Rattle.sea_disk.specs.Shown.{Shown, IsDisk, IsSettled};
-ghost use Rattle.sea_disk.specs.Calls.{overlaid, Torn, Cut, Turns, Rests, AreNext};
+ghost use Rattle.sea_disk.specs.Calls.{overlaid, Torn, Cut, Turns, Rests};
 
 use crate::file::File;
-use thiserror::Error;
-
-/// A call of a disk failed. The disk's count of faults rose in that call.
-#[derive(Clone, Copy, Debug, PartialEq, Eq, Error)]
-#[error("the disk failed")]
-pub struct Failed;
+use sea_faults::Failed;
 
 /// A disk of five files, whose unsynced bytes may come out of a stop as anything.
 pub trait Disk {

@@ -1,11 +1,11 @@
 // A disk over a folder of the system.
-ghost use Rattle.std.specs.Prelude.{◌≡◌, ◌≤◌, false, IfOk};
-ghost use Rattle.sea_faults.specs.Counts.{one_more, counted_on};
+ghost use Rattle.std.specs.Prelude.{◌≡◌, false, IfOk};
+ghost use Rattle.sea_faults.specs.Counts.{counted_on};
 ghost use Rattle.sea_disk.specs.Untold.{untold, untold_is_disk};
 
-use crate::disk::{Disk, Failed};
+use crate::disk::Disk;
 use crate::file::File;
-use sea_faults::raise;
+use sea_faults::{Failed, Faults};
 use std::alloc::Global;
 use std::fs::{File as OpenFile, OpenOptions};
 use std::io;
@@ -21,9 +21,7 @@ pub struct FolderDisk {
     log0: OpenFile,
     log1: OpenFile,
     arch: OpenFile,
-    /// How many calls failed, and how many of them were writing calls. The counts stand still at `u64::MAX`.
-    failed: u64,
-    failed_writes: u64,
+    faults: Faults,
 }
 
 impl FolderDisk {
@@ -34,8 +32,8 @@ impl FolderDisk {
         alloc: Global,
         folder: &str,
     ) -> io::Result<FolderDisk>
-        ensures failed { IfOk result (λ disk. disk.failed ≡ 0) }
-        ensures failed_writes { IfOk result (λ disk. disk.failed_writes ≡ 0) }
+        ensures failed { IfOk result (λ disk. disk.faults.all ≡ 0) }
+        ensures failed_writes { IfOk result (λ disk. disk.faults.writes ≡ 0) }
     {
         let disk = FolderDisk {
             base0: open_file(rt, alloc, folder, "base0")?,
@@ -43,8 +41,7 @@ impl FolderDisk {
             log0: open_file(rt, alloc, folder, "log0")?,
             log1: open_file(rt, alloc, folder, "log1")?,
             arch: open_file(rt, alloc, folder, "arch")?,
-            failed: 0,
-            failed_writes: 0,
+            faults: Faults::none(),
         };
         sync_names(rt, folder)?;
         sync_names(rt, format!(in alloc; "{folder}/..")?.as_str())?;
@@ -59,28 +56,6 @@ impl FolderDisk {
             File::Log1 => &self.log1,
             File::Arch => &self.arch,
         }
-    }
-
-    // Counts a failed call that writes nothing.
-    fn read_fault(&mut self) -> Failed
-        ensures failed { self.new.failed ≡ one_more self.old.failed }
-        ensures failed_writes { self.new.failed_writes ≡ self.old.failed_writes }
-        ensures later { self.old.failed ≤ self.new.failed }
-    {
-        raise(&mut self.failed);
-        Failed
-    }
-
-    // Counts a failed writing call.
-    fn write_fault(&mut self) -> Failed
-        ensures failed { self.new.failed ≡ one_more self.old.failed }
-        ensures failed_writes { self.new.failed_writes ≡ one_more self.old.failed_writes }
-        ensures later { self.old.failed ≤ self.new.failed }
-        ensures later_writes { self.old.failed_writes ≤ self.new.failed_writes }
-    {
-        raise(&mut self.failed);
-        raise(&mut self.failed_writes);
-        Failed
     }
 }
 
@@ -107,51 +82,51 @@ impl Disk for FolderDisk {
 
     ghost shows = { λ _. untold };
 
-    ghost faults = { λ disk. disk.failed };
+    ghost faults = { λ disk. disk.faults.all };
 
-    ghost failed = { λ disk. disk.failed_writes };
+    ghost failed = { λ disk. disk.faults.writes };
 
     ghost due = { λ _ _. false };
 
-    ghost steps = { λ old new failed. new.failed ≡ counted_on failed old.failed };
+    ghost steps = { λ old new failed. new.faults.all ≡ counted_on failed old.faults.all };
 
     fn size(&mut self, file: File) -> Result<u64, Failed> {
         match self.file(file).metadata() {
             Ok(metadata) => Ok(metadata.len()),
-            Err(_) => Err(self.read_fault()),
+            Err(_) => Err(self.faults.read()),
         }
     }
 
     fn read(&mut self, file: File, at: u64, into: &mut [u8]) -> Result<(), Failed> {
         match self.file(file).read_exact_at(into, at) {
             Ok(()) => Ok(()),
-            Err(_) => Err(self.read_fault()),
+            Err(_) => Err(self.faults.read()),
         }
     }
 
     fn write_at(&mut self, file: File, at: u64, bytes: &[u8]) -> Result<(), Failed> {
         match self.file(file).write_all_at(bytes, at) {
             Ok(()) => Ok(()),
-            Err(_) => Err(self.write_fault()),
+            Err(_) => Err(self.faults.write()),
         }
     }
 
     fn cut(&mut self, file: File, len: u64) -> Result<(), Failed> {
         match self.file(file).set_len(len) {
             Ok(()) => Ok(()),
-            Err(_) => Err(self.write_fault()),
+            Err(_) => Err(self.faults.write()),
         }
     }
 
     fn sync(&mut self, file: File) -> Result<(), Failed> {
         match self.file(file).sync_data() {
             Ok(()) => Ok(()),
-            Err(_) => Err(self.write_fault()),
+            Err(_) => Err(self.faults.write()),
         }
     }
 
     fn faults(&self) -> u64 {
-        self.failed
+        self.faults.all
     }
 
     ghost sound = { λ _. untold_is_disk };

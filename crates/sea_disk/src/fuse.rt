@@ -1,11 +1,11 @@
 // A disk that fails from some call on.
 ghost use Rattle.std.specs.Prelude.{◌≡◌, ◌+◌, ◌-◌, ◌==◌, ◌||◌, not, nat_le, min};
-ghost use Rattle.sea_faults.specs.Counts.{last_count, one_more};
+ghost use Rattle.sea_faults.specs.Counts.{last_count};
 ghost use Rattle.sea_disk.specs.Steps.{FuseSteps};
 
-use crate::disk::{Disk, Failed};
+use crate::disk::Disk;
 use crate::file::File;
-use sea_faults::raise;
+use sea_faults::{Failed, Faults};
 
 /// A disk that passes a number of calls on to another one and then fails all. What is on the other disk then is what a
 /// stop at that call finds.
@@ -15,8 +15,7 @@ pub struct Fuse<D> {
     /// How many calls are still passed on.
     pub calls: u64,
     /// How many calls were failed here, and how many of them were writing calls.
-    pub blown: u64,
-    pub blown_writes: u64,
+    pub blown: Faults,
 }
 
 impl<D: Disk> Fuse<D> {
@@ -24,14 +23,13 @@ impl<D: Disk> Fuse<D> {
     pub fn over(disk: D, calls: u64) -> Fuse<D>
         ensures disk { result.disk ≡ disk }
         ensures calls { result.calls ≡ calls }
-        ensures blown { result.blown ≡ 0 }
-        ensures blown_writes { result.blown_writes ≡ 0 }
+        ensures blown { result.blown.all ≡ 0 }
+        ensures blown_writes { result.blown.writes ≡ 0 }
     {
         Fuse {
             disk,
             calls,
-            blown: 0,
-            blown_writes: 0,
+            blown: Faults::none(),
         }
     }
 
@@ -43,7 +41,6 @@ impl<D: Disk> Fuse<D> {
             disk,
             calls: _,
             blown: _,
-            blown_writes: _,
         } = self;
         disk
     }
@@ -57,26 +54,6 @@ impl<D: Disk> Fuse<D> {
         self.calls = self.calls.saturating_sub(1);
         passes
     }
-
-    // Counts a call that was failed here and writes nothing.
-    fn read_fault(&mut self) -> Failed
-        ensures { self.new ≡ record self.old { blown = one_more self.old.blown } }
-    {
-        raise(&mut self.blown);
-        Failed
-    }
-
-    // Counts a writing call that was failed here.
-    fn write_fault(&mut self) -> Failed
-        ensures { self.new ≡ record self.old {
-          blown = one_more self.old.blown;
-          blown_writes = one_more self.old.blown_writes;
-        } }
-    {
-        raise(&mut self.blown);
-        raise(&mut self.blown_writes);
-        Failed
-    }
 }
 
 impl<D: Disk> Disk for Fuse<D> {
@@ -84,9 +61,9 @@ impl<D: Disk> Disk for Fuse<D> {
 
     ghost shows = { λ fuse. D.shows fuse.disk };
 
-    ghost faults = { λ fuse. min (D.faults fuse.disk + fuse.blown) last_count };
+    ghost faults = { λ fuse. min (D.faults fuse.disk + fuse.blown.all) last_count };
 
-    ghost failed = { λ fuse. min (D.failed fuse.disk + fuse.blown_writes) last_count };
+    ghost failed = { λ fuse. min (D.failed fuse.disk + fuse.blown.writes) last_count };
 
     ghost due = { λ fuse place. nat_le fuse.calls place || D.due fuse.disk place };
 
@@ -94,41 +71,41 @@ impl<D: Disk> Disk for Fuse<D> {
 
     fn size(&mut self, file: File) -> Result<u64, Failed> {
         if !self.next_passes() {
-            return Err(self.read_fault());
+            return Err(self.blown.read());
         }
         self.disk.size(file)
     }
 
     fn read(&mut self, file: File, at: u64, into: &mut [u8]) -> Result<(), Failed> {
         if !self.next_passes() {
-            return Err(self.read_fault());
+            return Err(self.blown.read());
         }
         self.disk.read(file, at, into)
     }
 
     fn write_at(&mut self, file: File, at: u64, bytes: &[u8]) -> Result<(), Failed> {
         if !self.next_passes() {
-            return Err(self.write_fault());
+            return Err(self.blown.write());
         }
         self.disk.write_at(file, at, bytes)
     }
 
     fn cut(&mut self, file: File, len: u64) -> Result<(), Failed> {
         if !self.next_passes() {
-            return Err(self.write_fault());
+            return Err(self.blown.write());
         }
         self.disk.cut(file, len)
     }
 
     fn sync(&mut self, file: File) -> Result<(), Failed> {
         if !self.next_passes() {
-            return Err(self.write_fault());
+            return Err(self.blown.write());
         }
         self.disk.sync(file)
     }
 
     fn faults(&self) -> u64 {
-        self.disk.faults().saturating_add(self.blown)
+        self.disk.faults().saturating_add(self.blown.all)
     }
 
     ghost sound = { λ fuse. D.sound fuse.disk };

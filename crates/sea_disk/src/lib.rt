@@ -15,12 +15,12 @@ mod folder;
 mod fuse;
 mod history;
 mod memory;
-mod plan;
 mod through;
 
-pub use disk::{Disk, Failed};
+pub use disk::Disk;
 pub use file::File;
 pub use folder::FolderDisk;
 pub use fuse::Fuse;
 pub use memory::MemDisk;
+pub use sea_faults::Failed;
 pub use through::{cut_through, write_through};

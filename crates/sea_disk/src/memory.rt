@@ -1,17 +1,16 @@
 // A disk in memory.
 ghost use Rattle.std.specs.Prelude.{◌≡◌, ◌+◌, ◌≤◌, ◌++◌, ◌∷◌, [], length, take, drop, IfOk, OnOk, OnErr};
-ghost use Rattle.sea_faults.specs.Counts.{one_more};
+ghost use Rattle.sea_faults.specs.Plans.{is_due};
 ghost use Rattle.sea_disk.specs.declared.file.File.{File};
-ghost use Rattle.sea_disk.specs.Steps.{MemSteps, is_due};
+ghost use Rattle.sea_disk.specs.Steps.{MemSteps};
 ghost use Rattle.sea_disk.specs.Shown.{IsImage, IsSettled};
 ghost use Rattle.sea_disk.specs.Traced.{track_of, shown_of, left_by};
 ghost use Rattle.sea_disk.specs.TracedLaws.{shown_is_disk};
 
-use crate::disk::{Disk, Failed};
+use crate::disk::Disk;
 use crate::file::File;
 use crate::history::History;
-use crate::plan::Plan;
-use sea_faults::raise;
+use sea_faults::{Failed, FaultPlan, Faults};
 use std::alloc::{AllocError, Global};
 
 /// A disk in memory. It tells its content, and keeps its writing calls, so that it knows what a stop may leave. It
@@ -22,10 +21,9 @@ pub struct MemDisk {
     /// The files, and the writing calls that made them.
     pub history: History,
     /// How many calls were made, and which are to fail.
-    pub plan: Plan,
-    /// How many calls failed, and how many of them were writing calls. The counts stand still at `u64::MAX`.
-    pub failed: u64,
-    pub failed_writes: u64,
+    pub plan: FaultPlan,
+    /// How many calls failed, and how many of them were writing calls.
+    pub faults: Faults,
 }
 
 impl MemDisk {
@@ -33,7 +31,7 @@ impl MemDisk {
     pub fn blank(alloc: Global) -> Result<MemDisk, AllocError>
         ensures calls { IfOk result (λ disk. disk.history.calls ≡ []) }
         ensures made { IfOk result (λ disk. disk.plan.made ≡ 0) }
-        ensures faults { IfOk result (λ disk. (disk.failed ≡ 0) × (disk.failed_writes ≡ 0) × (disk.plan.fails ≡ [])) }
+        ensures faults { IfOk result (λ disk. (disk.faults.all ≡ 0) × (disk.faults.writes ≡ 0) × (disk.plan.fails ≡ [])) }
     {
         Ok(MemDisk::over(alloc, History::new(alloc)))
     }
@@ -42,14 +40,13 @@ impl MemDisk {
     fn over(alloc: Global, history: History) -> MemDisk
         ensures history { result.history ≡ history }
         ensures made { result.plan.made ≡ 0 }
-        ensures faults { (result.failed ≡ 0) × (result.failed_writes ≡ 0) × (result.plan.fails ≡ []) }
+        ensures faults { (result.faults.all ≡ 0) × (result.faults.writes ≡ 0) × (result.plan.fails ≡ []) }
     {
         MemDisk {
             alloc,
             history,
-            plan: Plan::new(alloc),
-            failed: 0,
-            failed_writes: 0,
+            plan: FaultPlan::new(alloc),
+            faults: Faults::none(),
         }
     }
 
@@ -66,7 +63,7 @@ impl MemDisk {
         ensures ok { OnOk result (self.new ≡ record self.old { plan = record self.old.plan { fails = self.old.plan.fails ++ call ∷ [] } }) }
         ensures err { OnErr result (self.new ≡ self.old) }
     {
-        self.plan.fails.push(call)
+        self.plan.fail(call)
     }
 
     /// What a stop leaves of this disk, by choice: with 0 nothing since each file's last good sync, with 1 everything,
@@ -77,32 +74,9 @@ impl MemDisk {
         ensures image { IfOk result (λ image. IsImage (shown_of self.now.history.calls) (shown_of image.history.calls).seen) }
         ensures settled { IfOk result (λ image. (file : File) → IsSettled (shown_of image.history.calls) file) }
         ensures made { IfOk result (λ image. image.plan.made ≡ 0) }
-        ensures faults { IfOk result (λ image. (image.failed ≡ 0) × (image.failed_writes ≡ 0) × (image.plan.fails ≡ [])) }
+        ensures faults { IfOk result (λ image. (image.faults.all ≡ 0) × (image.faults.writes ≡ 0) × (image.plan.fails ≡ [])) }
     {
         Ok(MemDisk::over(self.alloc, self.history.image(choice)?))
-    }
-
-    // Counts a failed call that writes nothing.
-    fn read_fault(&mut self) -> Failed
-        ensures counted { self.new ≡ record self.old { failed = one_more self.old.failed } }
-        ensures later { self.old.failed ≤ self.new.failed }
-    {
-        raise(&mut self.failed);
-        Failed
-    }
-
-    // Counts a failed writing call.
-    fn write_fault(&mut self) -> Failed
-        ensures counted { self.new ≡ record self.old {
-          failed = one_more self.old.failed;
-          failed_writes = one_more self.old.failed_writes;
-        } }
-        ensures later { self.old.failed ≤ self.new.failed }
-        ensures later_writes { self.old.failed_writes ≤ self.new.failed_writes }
-    {
-        raise(&mut self.failed);
-        raise(&mut self.failed_writes);
-        Failed
     }
 }
 
@@ -111,9 +85,9 @@ impl Disk for MemDisk {
 
     ghost shows = { λ disk. shown_of disk.history.calls };
 
-    ghost faults = { λ disk. disk.failed };
+    ghost faults = { λ disk. disk.faults.all };
 
-    ghost failed = { λ disk. disk.failed_writes };
+    ghost failed = { λ disk. disk.faults.writes };
 
     ghost due = { λ disk. is_due disk.plan };
 
@@ -121,14 +95,14 @@ impl Disk for MemDisk {
 
     fn size(&mut self, file: File) -> Result<u64, Failed> {
         if self.plan.next_fails() {
-            return Err(self.read_fault());
+            return Err(self.faults.read());
         }
         Ok(self.history.bytes(file).len() as u64)
     }
 
     fn read(&mut self, file: File, at: u64, into: &mut [u8]) -> Result<(), Failed> {
         if self.plan.next_fails() {
-            return Err(self.read_fault());
+            return Err(self.faults.read());
         }
         place(self.history.bytes(file), at as usize, into);
         Ok(())
@@ -137,37 +111,37 @@ impl Disk for MemDisk {
     fn write_at(&mut self, file: File, at: u64, bytes: &[u8]) -> Result<(), Failed> {
         if self.plan.next_fails() {
             let _ = self.history.fail_write(file, at, bytes.len());
-            return Err(self.write_fault());
+            return Err(self.faults.write());
         }
         match self.history.write(file, at, bytes) {
             Ok(()) => Ok(()),
-            Err(_) => Err(self.write_fault()),
+            Err(_) => Err(self.faults.write()),
         }
     }
 
     fn cut(&mut self, file: File, len: u64) -> Result<(), Failed> {
         if self.plan.next_fails() {
             let _ = self.history.fail_cut(file, len);
-            return Err(self.write_fault());
+            return Err(self.faults.write());
         }
         match self.history.cut(file, len) {
             Ok(()) => Ok(()),
-            Err(_) => Err(self.write_fault()),
+            Err(_) => Err(self.faults.write()),
         }
     }
 
     fn sync(&mut self, file: File) -> Result<(), Failed> {
         if self.plan.next_fails() {
-            return Err(self.write_fault());
+            return Err(self.faults.write());
         }
         match self.history.sync(file) {
             Ok(()) => Ok(()),
-            Err(_) => Err(self.write_fault()),
+            Err(_) => Err(self.faults.write()),
         }
     }
 
     fn faults(&self) -> u64 {
-        self.failed
+        self.faults.all
     }
 
     ghost sound = { λ disk. shown_is_disk disk.history.calls };

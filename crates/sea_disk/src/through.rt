@@ -5,8 +5,9 @@ ghost use Rattle.sea_disk.specs.Shown.{IsSettled};
 ghost use Rattle.sea_disk.specs.Calls.{overlaid, Torn, Cut, After};
 ghost use Rattle.sea_disk.specs.Runs.{Works};
 
-use crate::disk::{Disk, Failed};
+use crate::disk::Disk;
 use crate::file::File;
+use sea_faults::Failed;
 
 /// Writes bytes from a place on and makes them safe, in two calls. After Ok a stop leaves the file as reads give it.
 ///

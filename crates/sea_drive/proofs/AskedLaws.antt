@@ -4,7 +4,7 @@ use Rattle.std.specs.List.{before_first, after_first}
 use Rattle.std.specs.Str.{is_utf8, IsUtf8}
 use Rattle.std.proofs.lemmas.Bool.{cases_Bool}
 use Rattle.std.proofs.lemmas.Str.{IsUtf8-from_is_utf8}
-use Rattle.sea_drive.specs.declared.asked.Verb.TheVariants.{Nothing, Unknown}
+use Rattle.sea_drive.specs.declared.verb.Verb.TheVariants.{Nothing, Unknown}
 use Rattle.sea_drive.specs.Asked.{asked_by, is_silent, verb_of}
 
 -- bytes that are no UTF-8

@@ -8,11 +8,11 @@ use Rattle.sea_core.specs.declared.fault.StartFault.{StartFault}
 use Rattle.sea_core.specs.declared.fault.StartFault.TheVariants as start
 use Rattle.sea_drive.specs.Outcome.{edit_outcome, is_disk_fault}
 use Rattle.sea_drive.specs.Play.{CountsDisk, Writes, end_status, fault_status, start_status}
-use Rattle.sea_drive.specs.declared.lines.ReadFault.{ReadFault}
-use Rattle.sea_drive.specs.declared.lines.ReadFault.TheVariants as fault
+use Rattle.sea_lines.specs.declared.reader.ReadFault.{ReadFault}
+use Rattle.sea_lines.specs.declared.reader.ReadFault.TheVariants as fault
 use Rattle.sea_drive.specs.declared.outcome.LineOutcome.{LineOutcome}
-use Rattle.sea_drive.specs.declared.ending.Status.{Status}
-use Rattle.sea_drive.specs.declared.ending.Status.TheVariants.{Done, Usage, SourceFault, SinkFault, DiskFault, Memory, NotABase, TooLong}
+use Rattle.sea_drive.specs.declared.status.Status.{Status}
+use Rattle.sea_drive.specs.declared.status.Status.TheVariants.{Done, Usage, SourceFault, SinkFault, DiskFault, Memory, NotABase, TooLong}
 
 rose_later : (first old new : ℕ) → Rose first old → old ≤ new → Rose first new
 rose_later first old new rose later =

@@ -2,11 +2,7 @@ pub mod AskedLaws
 pub mod FeedsLaws
 pub mod TextsLaws
 pub mod ReplyLaws
-pub mod LinesOf
 pub mod Counts
-pub mod LinesBuffer
-pub mod LinesSteps
-pub mod LinesLaws
 pub mod PlayLaws
 pub mod StandsLaws
 pub mod TurnLaws

@@ -1,30 +1,15 @@
 -- What a played script has read and given.
-use Rattle.std.proofs.Common.{◌≡◌, ℕ, ◌≤◌, ◌+◌, ◌-◌, drop, length-append, List, [], ◌∷◌, ◌++◌, length, Bool, true, false, ◌||◌, Option, Some, None, option_map, IfSome, is_none, refl, sym, ap, subst, ◌∙◌, append_assoc, append-nil, arith}
-use Rattle.std.specs.Io.KnownBytes.{Appends, IsAtEnd}
+use Rattle.std.proofs.Common.{◌≡◌, ℕ, List, [], ◌∷◌, ◌++◌, Bool, true, false, ◌||◌, Option, Some, None, option_map, is_none, refl, sym, ap, subst, ◌∙◌, append-nil, arith}
+use Rattle.std.specs.Io.KnownBytes.{IsAtEnd}
 use Rattle.std.proofs.lemmas.Grind.{flat_map-append}
-use Rattle.std.proofs.lemmas.List.{length-take}
 use Rattle.std.proofs.lemmas.List.Folds.{list_any-append}
-use Rattle.sea_drive.specs.Lines.{Place, lines_of, input_limit, HasReadTold, TotalTold, KeepsTotal, TakesWithin}
+use Rattle.sea_lines.specs.Lines.{Place, TotalTold, KeepsTotal, TakesWithin}
 use Rattle.sea_drive.specs.Outcome.{is_disk_fault}
-use Rattle.sea_drive.specs.Reader.{unread}
-use Rattle.sea_drive.specs.declared.lines.LineReader.{LineReader}
 use Rattle.sea_drive.specs.Play.{replies, met_want, met_fault}
 use Rattle.sea_drive.specs.Reply.{reply_line}
 use Rattle.sea_drive.specs.declared.outcome.LineOutcome.{LineOutcome}
 
 -- ---- replies
-
--- pieces that are given one after another
-pub gives_then : (taken given now : Option (List ℕ)) (a b : List ℕ) → Appends taken given a → Appends given now b → Appends taken now (a ++ b)
-gives_then None given now a b h k = tt
-gives_then (Some taken) None now a b h k = absurd h
-gives_then (Some taken) (Some given) None a b h k = absurd k
-gives_then (Some taken) (Some given) (Some now) a b h k = k ∙ ap (λ (t : List ℕ). t ++ b) h ∙ append_assoc taken a b
-
--- nothing given
-pub gives_none : (taken : Option (List ℕ)) → Appends taken taken []
-gives_none None = tt
-gives_none (Some taken) = sym (append-nil taken)
 
 -- one result more has its reply behind the others
 pub replies-push : (results : List (Option LineOutcome)) (result : Option LineOutcome) → replies (results ++ result ∷ []) ≡ replies results ++ reply_line result
@@ -41,12 +26,6 @@ pub met_fault-push : (results : List (Option LineOutcome)) (result : Option Line
 met_fault-push results result = list_any-append is_disk_fault results (result ∷ []) ∙ ap (λ (b : Bool). met_fault results || b) (or-false (is_disk_fault result))
 
 -- ---- where the script stands
-
--- the lines behind those that were read
-pub behind : (input rest : Option (List ℕ)) (lines : List (List ℕ)) (read : ℕ) → HasReadTold input lines read rest → (more : List (List ℕ)) × IfSome input (λ bytes. lines_of bytes ≡ lines ++ more)
-behind None rest lines read h = ([], tt)
-behind (Some input) None lines read h = absurd h
-behind (Some input) (Some rest) lines read h = (lines_of rest, h.split)
 
 -- nothing is left where the bytes unread and those left are none together
 append_none : (xs ys : List ℕ) → xs ++ ys ≡ [] → ys ≡ []
@@ -86,11 +65,3 @@ total_then start before now h k = totals start.read before.read now.read start.r
 pub takes_none : (left : Option (List ℕ)) → TakesWithin left left
 takes_none None = tt
 takes_none (Some bytes) = omega arith
-
-pub takes_within : (before left : Option (List ℕ)) (read : ℕ) (unread : List ℕ) → TotalTold 0 read before (option_map (λ bytes. unread ++ bytes) left) → read + length unread ≤ input_limit + 1 → TakesWithin before left
-takes_within None left read unread total bound = tt
-takes_within (Some before) None read unread total bound = absurd total
-takes_within (Some before) (Some now) read unread total bound = omega (arith, total, length-append unread now)
-
-pub length_unread : (reader : LineReader) → length (unread reader) ≤ reader.to - reader.from
-length_unread reader = omega (arith, length-take (reader.to - reader.from) (drop reader.from reader.buffer.items))

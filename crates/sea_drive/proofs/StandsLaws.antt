@@ -4,11 +4,11 @@ use Rattle.sea_disk.specs.declared.file.File.TheVariants.{Base0, Base1, Log0, Lo
 use Rattle.sea_disk.specs.Shown.{Files, Shown, IsImage, IsDisk}
 use Rattle.sea_disk.specs.Runs.{Leaves}
 use Rattle.sea_disk.specs.Composition.{leaves_weaker}
-use Rattle.sea_plain.specs.declared.base.Plain.{Plain}
-use Rattle.sea_plain.specs.declared.operation.Entry.{Entry}
-use Rattle.sea_plain.specs.declared.operation.Op.{Op}
-use Rattle.sea_plain.specs.Apply.{apply}
-use Rattle.sea_plain.specs.declared.refusal.OpRefusal.{OpRefusal}
+use Rattle.sea_operation.specs.declared.base.Plain.{Plain}
+use Rattle.sea_operation.specs.declared.operation.Entry.{Entry}
+use Rattle.sea_operation.specs.declared.operation.Op.{Op}
+use Rattle.sea_operation.specs.Apply.{apply}
+use Rattle.sea_operation.specs.declared.refusal.OpRefusal.{OpRefusal}
 use Rattle.sea_ops.specs.Operations.{op_of}
 use Rattle.sea_core.specs.declared.kept.Core.{Core}
 use Rattle.sea_core.specs.declared.kept.Doubt.{Doubt}
@@ -23,8 +23,8 @@ use Rattle.sea_core.specs.declared.fault.StartFault.{StartFault}
 use Rattle.sea_core.specs.declared.fault.StartFault.TheVariants as start
 use Rattle.sea_drive.specs.Steps.{EditsText, Refuses, IsFoundAgain, VerbStep, LineStep}
 use Rattle.sea_drive.specs.Texts.{without_return}
-use Rattle.sea_drive.specs.declared.asked.Verb.{Verb}
-use Rattle.sea_drive.specs.declared.asked.Verb.TheVariants.{Nothing, Unknown, Later, Edit, Select, Feed, Reopen}
+use Rattle.sea_drive.specs.declared.verb.Verb.{Verb}
+use Rattle.sea_drive.specs.declared.verb.Verb.TheVariants.{Nothing, Unknown, Later, Edit, Select, Feed, Reopen}
 use Rattle.sea_drive.specs.declared.line.Played.TheVariants.{On, Refused}
 use Rattle.sea_drive.specs.declared.outcome.LineOutcome.{LineOutcome}
 

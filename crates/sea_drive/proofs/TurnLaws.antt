@@ -2,17 +2,18 @@
 use Rattle.std.proofs.Common.{◌≡◌, ℕ, ◌≤◌, ℤ, List, [], ◌∷◌, ◌++◌, length, take, Bool, true, false, ◌||◌, Option, Some, None, IfSome, is_none, refl, sym, ap, subst, ◌∙◌, append-nil, inl, inr, arith}
 use Rattle.std.specs.Io.KnownBytes.{Appends, IsAtEnd}
 use Rattle.std.proofs.lemmas.List.Elements.{All-append, All-nil, All-from_recursion}
+use Rattle.std.proofs.KnownBytes.{Appends-trans, Appends-nil}
 use Rattle.sea_disk.specs.Shown.{Files, Shown, IsDisk}
 use Rattle.sea_disk.specs.Runs.{Leaves}
 use Rattle.sea_disk.specs.Composition.{leaves_weaker, leaves_then}
-use Rattle.sea_plain.specs.declared.base.Plain.{Plain}
+use Rattle.sea_operation.specs.declared.base.Plain.{Plain}
 use Rattle.sea_core.specs.declared.kept.Core.{Core}
 use Rattle.sea_core.specs.declared.limits.Limits.{Limits}
 use Rattle.sea_core.specs.declared.fault.StartFault.{StartFault}
 use Rattle.sea_core.specs.declared.fault.StartFault.TheVariants as start
 use Rattle.sea_core.specs.Sound.{IsSound, StandsForCore}
 use Rattle.sea_core.specs.Stands.{StandsFor, KeepsStanding}
-use Rattle.sea_drive.specs.Lines.{Place, lines_of, line_limit, input_limit, PassesLimit, BreaksOff, HasRead, HasReadTold, HasReadTo, ReadsTold, ReadsLine}
+use Rattle.sea_lines.specs.Lines.{Place, lines_of, line_limit, input_limit, PassesLimit, BreaksOff, HasRead, HasReadTold, HasReadTo, ReadsTold, ReadsLine}
 use Rattle.sea_drive.specs.Outcome.{start_outcome, is_disk_fault}
 use Rattle.sea_drive.specs.Play.{replies, met_want, met_fault, last_core, Run, Script, RunsTo, StandsForSome, StandsInScript, IsPlayed, IsWritten, IsCut, IsFinished, IsRefused, SaysOf, Ends, Goes, WritesPiece, end_status, fault_status, start_status}
 use Rattle.sea_drive.specs.Reply.{reply_line}
@@ -20,14 +21,14 @@ use Rattle.sea_drive.specs.Steps.{Starts, Refuses, LineStep}
 use Rattle.sea_drive.specs.Turns.{PlaysOn, Turns, WritesRefusal}
 use Rattle.sea_drive.specs.declared.line.Played.TheVariants.{On as GoesOn, Refused}
 use Rattle.sea_drive.specs.declared.outcome.LineOutcome.{LineOutcome}
-use Rattle.sea_drive.specs.declared.ending.Status.{Status}
-use Rattle.sea_drive.specs.declared.ending.Status.TheVariants as status
-use Rattle.sea_drive.specs.declared.lines.ReadFault.{ReadFault}
-use Rattle.sea_drive.specs.declared.lines.ReadFault.TheVariants as fault
+use Rattle.sea_drive.specs.declared.status.Status.{Status}
+use Rattle.sea_drive.specs.declared.status.Status.TheVariants as status
+use Rattle.sea_lines.specs.declared.reader.ReadFault.{ReadFault}
+use Rattle.sea_lines.specs.declared.reader.ReadFault.TheVariants as fault
 use Rattle.sea_drive.specs.declared.turn.Turn.{Turn}
 use Rattle.sea_drive.specs.declared.turn.Turn.TheVariants.{On, End}
-use Rattle.sea_drive.proofs.LinesLaws.{HasReadTo-none, HasReadTo-line, HasReadTo-end, HasReadTo-within}
-use Rattle.sea_drive.proofs.PlayLaws.{gives_then, gives_none, replies-push, met_want-push, met_fault-push, behind}
+use Rattle.sea_lines.specs.Inputs.{HasReadTo-none, HasReadTo-line, HasReadTo-end, HasReadTo-within, behind}
+use Rattle.sea_drive.proofs.PlayLaws.{replies-push, met_want-push, met_fault-push}
 use Rattle.sea_drive.proofs.StandsLaws.{Kept, line_kept, line_refused, refused_leaves, sound_found}
 
 -- ---- cores, one after another
@@ -78,7 +79,7 @@ module _ {D : Type 0} (clock : Option ℤ) (told : Type 0) (shows : D → Shown)
     last = refl;
     any_moment = λ is. leaves_weaker (starts.any_moment is) (λ files keeps. inl keeps);
     sound = starts.sound;
-    written = gives_none taken;
+    written = Appends-nil taken;
     wants = refl;
     faults = refl;
   }
@@ -97,12 +98,12 @@ module _ {D : Type 0} (clock : Option ℤ) (told : Type 0) (shows : D → Shown)
     fault = start.Memory;
     says = refl;
     start = record { no_base = λ is none. absurd (cc); any_moment = λ is. keeps_idle };
-    nothing = gives_none taken;
+    nothing = Appends-nil taken;
   })
 
   -- the first start was refused
   pub ends_unstarted : (input left taken : Option (List ℕ)) (fault : StartFault) (back : D) → Refuses told shows disk fault back → Ends (start_status fault) clock told shows limits disk back input left taken taken
-  ends_unstarted input left taken fault back refuses = inr (record { fault = fault; says = refl; start = refuses; nothing = gives_none taken })
+  ends_unstarted input left taken fault back refuses = inr (record { fault = fault; says = refl; start = refuses; nothing = Appends-nil taken })
 
   -- ---- one turn
 
@@ -165,7 +166,7 @@ module _ {D : Type 0} (clock : Option ℤ) (told : Type 0) (shows : D → Shown)
           last = sym (last_core-push so_far.first so_far.cores next);
           any_moment = leaves_with;
           sound = λ is. (kept is).sound;
-          written = rw (replies-push so_far.results result) (gives_then taken given now (replies so_far.results) (reply_line result) so_far.written writes);
+          written = rw (replies-push so_far.results result) (Appends-trans taken given now (replies so_far.results) (reply_line result) so_far.written writes);
           wants = wants ∙ ap (λ (b : Bool). b || is_none result) so_far.wants ∙ sym (met_want-push so_far.results result);
           faults = faults ∙ ap (λ (b : Bool). b || is_disk_fault result) so_far.faults ∙ sym (met_fault-push so_far.results result);
         }
@@ -181,7 +182,7 @@ module _ {D : Type 0} (clock : Option ℤ) (told : Type 0) (shows : D → Shown)
             any_moment = leaves_with;
             sound = λ is. subst (λ (one : Core D). IsSound shows one) (sym (last_core-push so_far.first so_far.cores next)) (kept is).sound;
           },
-          record { earlier = so_far.results; final = result ∷ []; one = omega arith; all = refl; count = count; written = gives_then taken given now (replies so_far.results) _ so_far.written (rw (append-nil (reply_line result)) writes) },
+          record { earlier = so_far.results; final = result ∷ []; one = omega arith; all = refl; count = count; written = Appends-trans taken given now (replies so_far.results) _ so_far.written (rw (append-nil (reply_line result)) writes) },
         )
 
         -- the line was played, and its reply couldn't be given whole
@@ -213,10 +214,10 @@ module _ {D : Type 0} (clock : Option ℤ) (told : Type 0) (shows : D → Shown)
         }
 
         written_whole : Appends given now (reply_line (start_outcome why)) → Appends taken now (replies (so_far.results ++ start_outcome why ∷ []))
-        written_whole writes = rw (replies-push so_far.results (start_outcome why)) (gives_then taken given now (replies so_far.results) (reply_line (start_outcome why)) so_far.written writes)
+        written_whole writes = rw (replies-push so_far.results (start_outcome why)) (Appends-trans taken given now (replies so_far.results) (reply_line (start_outcome why)) so_far.written writes)
 
         cut_refused : (count : ℕ) → Appends given now (take count (reply_line (start_outcome why))) → IsCut taken now refused_script
-        cut_refused count writes = record { earlier = so_far.results; final = start_outcome why ∷ []; one = omega arith; all = refl; count = count; written = gives_then taken given now (replies so_far.results) _ so_far.written (rw (append-nil (reply_line (start_outcome why))) writes) }
+        cut_refused count writes = record { earlier = so_far.results; final = start_outcome why ∷ []; one = omega arith; all = refl; count = count; written = Appends-trans taken given now (replies so_far.results) _ so_far.written (rw (append-nil (reply_line (start_outcome why))) writes) }
 
         says_refused : (fault : StartFault) (script : Script D) (left : Option (List ℕ)) → script.refusal ≡ Some fault → IsWritten taken now script → SaysOf (start_status fault) input left taken now script
         says_refused start.Memory script left refused written = inr (inl (refused, written))

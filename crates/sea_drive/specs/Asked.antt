@@ -2,8 +2,8 @@
 use Rattle.std.specs.Prelude.{ℕ, ◌==◌, ◌||◌, List, [], ◌∷◌, length, slice_index, Bool, if◌then◌else◌, codes}
 use Rattle.std.specs.List.{list_any, before_first, after_first}
 use Rattle.std.specs.Str.{bytes_eq, is_utf8}
-use Rattle.sea_drive.specs.declared.asked.Verb.{Verb}
-use Rattle.sea_drive.specs.declared.asked.Verb.TheVariants.{Nothing, Unknown, Later, Edit, Select, Feed, Reopen}
+use Rattle.sea_drive.specs.declared.verb.Verb.{Verb}
+use Rattle.sea_drive.specs.declared.verb.Verb.TheVariants.{Nothing, Unknown, Later, Edit, Select, Feed, Reopen}
 
 -- the words of the lines that aren't built yet
 abbrev pub later_words : List (List ℕ)

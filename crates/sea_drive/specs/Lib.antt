@@ -1,11 +1,9 @@
 pub mod Asked
 pub mod Fed
 pub mod Feeds
-pub mod Dump
-pub mod Lines
+pub mod Dumps
 pub mod Outcome
 pub mod Play
-pub mod Reader
 pub mod Refused
 pub mod Reply
 pub mod Select

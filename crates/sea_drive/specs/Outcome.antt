@@ -2,12 +2,12 @@
 use Rattle.std.specs.Prelude.{ℕ, List, Bool, true, false, Option, Some, None, Result, Ok, Err, codes}
 use Rattle.sea_cell.specs.declared.keys.Moment.{Moment}
 use Rattle.sea_links.specs.declared.pair.LinkPair.{LinkPair}
-use Rattle.sea_plain.specs.Base.{plain_named}
-use Rattle.sea_plain.specs.declared.base.Plain.{Plain}
-use Rattle.sea_plain.specs.declared.base.PlainTable.{PlainTable}
-use Rattle.sea_plain.specs.declared.operation.Entry.{Entry}
-use Rattle.sea_plain.specs.declared.operation.Op.{Op}
-use Rattle.sea_plain.specs.declared.refusal.OpRefusal.TheVariants as refusal
+use Rattle.sea_operation.specs.Base.{plain_named}
+use Rattle.sea_operation.specs.declared.base.Plain.{Plain}
+use Rattle.sea_operation.specs.declared.base.PlainTable.{PlainTable}
+use Rattle.sea_operation.specs.declared.operation.Entry.{Entry}
+use Rattle.sea_operation.specs.declared.operation.Op.{Op}
+use Rattle.sea_operation.specs.declared.refusal.OpRefusal.TheVariants as refusal
 use Rattle.sea_core.specs.declared.fault.CoreFault.{CoreFault}
 use Rattle.sea_core.specs.declared.fault.CoreFault.TheVariants as edit_fault
 use Rattle.sea_core.specs.declared.fault.StartFault.{StartFault}

@@ -12,16 +12,16 @@ use Rattle.sea_core.specs.declared.fault.StartFault.{StartFault}
 use Rattle.sea_core.specs.declared.fault.StartFault.TheVariants as start
 use Rattle.sea_core.specs.Sound.{IsSound, StandsForCore}
 use Rattle.sea_core.specs.Stands.{KeepsStanding}
-use Rattle.sea_drive.specs.Lines.{Place, lines_of, line_limit, IsWithinLimits, PassesLimit, HasRead, HasReadTo, BreaksOff}
+use Rattle.sea_lines.specs.Lines.{Place, lines_of, line_limit, IsWithinLimits, PassesLimit, HasRead, HasReadTo, BreaksOff}
 use Rattle.sea_drive.specs.Outcome.{start_outcome, is_disk_fault}
 use Rattle.sea_drive.specs.Reply.{reply_line}
 use Rattle.sea_drive.specs.Steps.{Starts, Refuses, LineStep}
 use Rattle.sea_drive.specs.declared.line.Played.TheVariants.{On, Refused}
 use Rattle.sea_drive.specs.declared.outcome.LineOutcome.{LineOutcome}
-use Rattle.sea_drive.specs.declared.lines.ReadFault.{ReadFault}
-use Rattle.sea_drive.specs.declared.lines.ReadFault.TheVariants as fault
-use Rattle.sea_drive.specs.declared.ending.Status.{Status}
-use Rattle.sea_drive.specs.declared.ending.Status.TheVariants.{Done, Usage, SourceFault, SinkFault, DiskFault, Memory, NotABase, TooLong}
+use Rattle.sea_lines.specs.declared.reader.ReadFault.{ReadFault}
+use Rattle.sea_lines.specs.declared.reader.ReadFault.TheVariants as fault
+use Rattle.sea_drive.specs.declared.status.Status.{Status}
+use Rattle.sea_drive.specs.declared.status.Status.TheVariants.{Done, Usage, SourceFault, SinkFault, DiskFault, Memory, NotABase, TooLong}
 
 -- the reply lines of some results, one after another
 abbrev pub replies : List (Option LineOutcome) → List ℕ

@@ -3,10 +3,10 @@ use Rattle.std.specs.Prelude.{ℕ, List, codes}
 use Rattle.serde_json.specs.Data.{Data, number, unsigned, string, object, member, no_members}
 use Rattle.sea_cell.specs.declared.conversion.CellFault.{CellFault}
 use Rattle.sea_cell.specs.declared.conversion.CellFault.TheVariants as fault
-use Rattle.sea_plain.specs.declared.refusal.Counter.{Counter}
-use Rattle.sea_plain.specs.declared.refusal.Counter.TheVariants as counter
-use Rattle.sea_plain.specs.declared.refusal.OpRefusal.{OpRefusal}
-use Rattle.sea_plain.specs.declared.refusal.OpRefusal.TheVariants as refusal
+use Rattle.sea_operation.specs.declared.refusal.Counter.{Counter}
+use Rattle.sea_operation.specs.declared.refusal.Counter.TheVariants as counter
+use Rattle.sea_operation.specs.declared.refusal.OpRefusal.{OpRefusal}
+use Rattle.sea_operation.specs.declared.refusal.OpRefusal.TheVariants as refusal
 
 -- an object that names an error
 abbrev pub error_json : List ℕ → Data

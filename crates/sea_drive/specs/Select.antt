@@ -6,7 +6,7 @@ use Rattle.sea_moment.specs.Dates.{is_digit}
 use Rattle.sea_cell.specs.Cells.{cell_in}
 use Rattle.sea_links.specs.declared.pair.LinkPair.{LinkPair}
 use Rattle.sea_plain.specs.Linked.{row_shown}
-use Rattle.sea_plain.specs.declared.base.PlainTable.{PlainTable}
+use Rattle.sea_operation.specs.declared.base.PlainTable.{PlainTable}
 use Rattle.sea_drive.specs.declared.outcome.Answer.{Answer}
 use Rattle.sea_drive.specs.Texts.{stripped}
 

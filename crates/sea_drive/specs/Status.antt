@@ -1,7 +1,7 @@
 -- The program's exit statuses.
 use Rattle.std.specs.Prelude.{ℕ}
-use Rattle.sea_drive.specs.declared.ending.Status.{Status}
-use Rattle.sea_drive.specs.declared.ending.Status.TheVariants.{Done, Usage, SourceFault, SinkFault, DiskFault, Memory, NotABase, TooLong}
+use Rattle.sea_drive.specs.declared.status.Status.{Status}
+use Rattle.sea_drive.specs.declared.status.Status.TheVariants.{Done, Usage, SourceFault, SinkFault, DiskFault, Memory, NotABase, TooLong}
 
 abbrev pub code_of : Status → ℕ
 code_of Done = 0

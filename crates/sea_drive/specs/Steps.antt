@@ -4,10 +4,10 @@ use Rattle.sea_edge.specs.Minutes.{Tells}
 use Rattle.sea_disk.specs.Shown.{Shown}
 use Rattle.sea_disk.specs.Runs.{Leaves}
 use Rattle.sea_cell.specs.declared.keys.Moment.{Moment}
-use Rattle.sea_plain.specs.declared.base.Plain.{Plain}
-use Rattle.sea_plain.specs.declared.operation.Entry.{Entry}
-use Rattle.sea_plain.specs.declared.operation.Op.{Op}
-use Rattle.sea_plain.specs.declared.refusal.OpRefusal.TheVariants as refusal
+use Rattle.sea_operation.specs.declared.base.Plain.{Plain}
+use Rattle.sea_operation.specs.declared.operation.Entry.{Entry}
+use Rattle.sea_operation.specs.declared.operation.Op.{Op}
+use Rattle.sea_operation.specs.declared.refusal.OpRefusal.TheVariants as refusal
 use Rattle.sea_ops.specs.Operations.{op_of}
 use Rattle.sea_core.specs.declared.kept.Core.{Core}
 use Rattle.sea_core.specs.declared.kept.Doubt.{Doubt}
@@ -18,8 +18,8 @@ use Rattle.sea_core.specs.declared.fault.StartFault.TheVariants as start
 use Rattle.sea_core.specs.Edits.{Edited}
 use Rattle.sea_core.specs.Sound.{IsSound, StandsWithOrWithout}
 use Rattle.sea_core.specs.Stands.{StandsFor, KeepsStanding}
-use Rattle.sea_drive.specs.declared.asked.Verb.{Verb}
-use Rattle.sea_drive.specs.declared.asked.Verb.TheVariants.{Nothing, Unknown, Later, Edit, Select, Feed, Reopen}
+use Rattle.sea_drive.specs.declared.verb.Verb.{Verb}
+use Rattle.sea_drive.specs.declared.verb.Verb.TheVariants.{Nothing, Unknown, Later, Edit, Select, Feed, Reopen}
 use Rattle.sea_drive.specs.declared.line.Played.{Played}
 use Rattle.sea_drive.specs.declared.line.Played.TheVariants.{On, Refused}
 use Rattle.sea_drive.specs.declared.outcome.LineOutcome.{LineOutcome}

@@ -7,7 +7,7 @@ use Rattle.sea_core.specs.Causes.{StartCause}
 use Rattle.sea_core.specs.declared.kept.Core.{Core}
 use Rattle.sea_core.specs.declared.limits.Limits.{Limits}
 use Rattle.sea_core.specs.declared.fault.StartFault.{StartFault}
-use Rattle.sea_drive.specs.Lines.{Place, input_limit}
+use Rattle.sea_lines.specs.Lines.{Place, input_limit}
 use Rattle.sea_drive.specs.Outcome.{start_outcome, is_disk_fault}
 use Rattle.sea_drive.specs.Play.{Ends, Goes, Writes, start_status, is_source_fault, is_sink_fault, CountsDisk}
 use Rattle.sea_drive.specs.Reply.{reply_line}
@@ -15,7 +15,7 @@ use Rattle.sea_drive.specs.Steps.{LineStep}
 use Rattle.sea_drive.specs.declared.line.Played.{Played}
 use Rattle.sea_drive.specs.declared.line.Played.TheVariants.{On as GoesOn, Refused}
 use Rattle.sea_drive.specs.declared.outcome.LineOutcome.{LineOutcome}
-use Rattle.sea_drive.specs.declared.ending.Status.{Status}
+use Rattle.sea_drive.specs.declared.status.Status.{Status}
 use Rattle.sea_drive.specs.declared.turn.Player.{Player}
 use Rattle.sea_drive.specs.declared.turn.Turn.{Turn}
 use Rattle.sea_drive.specs.declared.turn.Turn.TheVariants.{On, End}

@@ -4,12 +4,12 @@ use Rattle.std.specs.Io.KnownBytes.{Appends}
 use Rattle.std.specs.Str.{bytes_eq}
 use Rattle.sea_disk.specs.Shown.{Shown}
 use Rattle.sea_core.specs.declared.limits.Limits.{Limits}
-use Rattle.sea_drive.specs.Dump.{Dumps}
+use Rattle.sea_drive.specs.Dumps.{Dumps}
 use Rattle.sea_drive.specs.Play.{Ends}
 use Rattle.sea_drive.specs.declared.command.Command.{Command}
 use Rattle.sea_drive.specs.declared.command.Command.TheVariants.{Play, Dump}
-use Rattle.sea_drive.specs.declared.ending.Status.{Status}
-use Rattle.sea_drive.specs.declared.ending.Status.TheVariants.{Usage, SinkFault}
+use Rattle.sea_drive.specs.declared.status.Status.{Status}
+use Rattle.sea_drive.specs.declared.status.Status.TheVariants.{Usage, SinkFault}
 
 -- the command of this name
 abbrev pub command_named : List ℕ → Option Command

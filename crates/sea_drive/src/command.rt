@@ -2,14 +2,14 @@
 ghost use Rattle.std.specs.Prelude.{◌≡◌, false, option_map};
 ghost use Rattle.sea_faults.specs.Counts.{IsCaused};
 ghost use Rattle.sea_core.specs.Stands.{StandsFor};
-ghost use Rattle.sea_plain.specs.declared.base.Plain.{Plain};
-ghost use Rattle.sea_drive.specs.Lines.{TakesWithin};
+ghost use Rattle.sea_operation.specs.declared.base.Plain.{Plain};
+ghost use Rattle.sea_lines.specs.Lines.{TakesWithin};
 ghost use Rattle.sea_drive.specs.Play.{CountsDisk, is_source_fault, is_sink_fault};
 ghost use Rattle.sea_drive.specs.Words.{command_in, command_named as command_named_of, folder_in, is_play, usage_line as usage_line_of, SaysUsage, RunsBy};
 
 use crate::dumping::dump;
-use crate::ending::Status;
 use crate::player::play;
+use crate::status::Status;
 use sea_cell::Text;
 use sea_core::Limits;
 use sea_disk::Disk;

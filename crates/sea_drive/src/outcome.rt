@@ -1,7 +1,7 @@
 // What comes of a line.
 use sea_cell::{CellValue, Texts};
 use sea_core::Feed;
-use sea_plain::OpRefusal;
+use sea_operation::OpRefusal;
 use sqlite_items::Items;
 
 /// A row of an answer: its cells in the order of the answer's columns.

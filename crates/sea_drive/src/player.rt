@@ -2,24 +2,24 @@
 ghost use Rattle.std.specs.Prelude.{◌≡◌, ◌<◌, ◌≤◌, ◌||◌, ℕ, List, Option, Some, None, is_none, false};
 ghost use Rattle.sea_faults.specs.Counts.{IsCaused};
 ghost use Rattle.sea_core.specs.Stands.{StandsFor};
-ghost use Rattle.sea_plain.specs.declared.base.Plain.{Plain};
+ghost use Rattle.sea_operation.specs.declared.base.Plain.{Plain};
 ghost use Rattle.sea_core.specs.declared.limits.Limits.{Limits};
-ghost use Rattle.sea_drive.specs.Lines.{KeepsTotal, TakesWithin};
+ghost use Rattle.sea_lines.specs.Lines.{KeepsTotal, TakesWithin};
 ghost use Rattle.sea_drive.specs.Outcome.{start_outcome as start_outcome_of, is_disk_fault as is_disk_fault_of};
 ghost use Rattle.sea_drive.specs.Play.{Ends, Goes, CountsDisk, is_source_fault, is_sink_fault, Writes, WritesPiece, end_status as end_status_of, fault_status as fault_status_of, start_status as start_status_of};
-ghost use Rattle.sea_drive.specs.Reader.{place_of};
+ghost use Rattle.sea_lines.specs.Reader.{bytes_read, place_of};
 ghost use Rattle.sea_drive.specs.Turns.{PlaysOn, Turns, has_source_fault, has_sink_fault, ends_by, CountsTurn, ReadsOn};
 
-use crate::ending::Status;
 use crate::line::Played;
-use crate::lines::{LineReader, ReadFault};
 use crate::outcome::LineOutcome;
 use crate::playing::play_line;
 use crate::reply::{line_of, memory_line};
+use crate::status::Status;
 use crate::turn::{Player, Turn};
 use sea_core::{Core, Limits, StartFault};
 use sea_disk::Disk;
 use sea_edge::{Clock, Sink, Source};
+use sea_lines::{LineReader, ReadFault};
 use std::alloc::Global;
 
 /// Plays a script on the base that a disk's files stand for: each line of the source in turn, with one reply line for
@@ -76,7 +76,7 @@ fn turn<S: Source, K: Sink, D: Disk, C: Clock>(
     ensures source { IsCaused (has_source_fault result) (S.faults source.old) (S.faults source.new) }
     ensures sink { IsCaused (has_sink_fault result) (K.faults sink.old) (K.faults sink.new) }
     ensures clock { C.told clock.new ≡ C.told clock.old }
-    ensures progress { ReadsOn reader.old.read reader.new.read result }
+    ensures progress { ReadsOn (bytes_read reader.old) (bytes_read reader.new) result }
     ensures counted { KeepsTotal (place_of reader.old (S.left source.old)) (place_of reader.new (S.left source.new)) }
 {
     match reader.next_line(alloc, source) {

@@ -9,18 +9,18 @@ ghost use Rattle.sea_faults.specs.Counts.{IsCaused};
 ghost use Rattle.sea_drive.specs.Steps.{LineStep, VerbStep, Stays, Edits, EditsText};
 ghost use Rattle.sea_drive.specs.Turns.{Counted};
 
-use crate::asked::{Verb, asked_by};
 use crate::feed::play_feed;
 use crate::line::Played;
 use crate::outcome::LineOutcome;
 use crate::select::{answer_of, table_of_select};
 use crate::texts::without_return;
+use crate::verb::{Verb, asked_by};
 use sea_cell::{Moment, Text};
 use sea_core::{Core, CoreFault, one_base_at_most};
 use sea_disk::Disk;
 use sea_edge::Clock;
+use sea_operation::{Entry, OpRefusal, Plain, plain_named};
 use sea_ops::{OpFault, op_of_json};
-use sea_plain::{Entry, OpRefusal, Plain, plain_named};
 use std::alloc::{AllocError, Global};
 
 /// Plays a line on a core.

@@ -4,9 +4,9 @@ ghost use Rattle.sea_cell.specs.Conversion.{json_of};
 ghost use Rattle.serde_json.specs.View.{view};
 ghost use Rattle.sea_drive.specs.Reply.{row_json as row_json_of, rows_json as rows_json_of, outcome_json as outcome_json_of, outcome_line, reply_line};
 
-use crate::fed::{ahead_json, feed_json, gone_json};
+use crate::feed_text::{ahead_json, feed_json, gone_json};
 use crate::outcome::{Answer, AnswerRow, LineOutcome};
-use crate::refused::{error_json, refusal_json};
+use crate::refusal_text::{error_json, refusal_json};
 use sea_cell::{CellValue, json_of_cell, texts_json};
 use sea_ops::operations_have_no_float;
 use serde_json::{Value, json};

@@ -8,9 +8,11 @@ ghost use Rattle.sea_drive.specs.Select.{select_of, is_keyword as is_keyword_of,
 
 use crate::outcome::{Answer, AnswerRow, AnswerRows};
 use crate::texts::stripped;
-use sea_cell::{Column, Duplicate, Row, Shared, Texts, cell_in};
+use sea_cell::{Column, Row, Shared, cell_in};
+use sea_dump::names_of;
 use sea_links::LinkPair;
-use sea_plain::{PlainTable, rows_shown};
+use sea_operation::PlainTable;
+use sea_plain::rows_shown;
 use sqlite_items::Items;
 use std::alloc::{AllocError, Global};
 
@@ -108,17 +110,6 @@ fn front_of(rows: &[Shared<Row>], most: usize) -> &[Shared<Row>]
         return &rows[..most];
     }
     rows
-}
-
-/// The names of columns, in their order.
-pub fn names_of(alloc: Global, columns: &[Column]) -> Result<Texts, AllocError>
-    ensures { IfOk result (λ names. names ≡ map (λ column. column.name) columns.now) }
-{
-    let mut names = Items::new(alloc);
-    for column in columns {
-        names.push(column.name.duplicate(alloc)?)?;
-    }
-    Ok(names)
 }
 
 fn cells_of_rows(

@@ -1,5 +1,5 @@
 // A script while it is played.
-use crate::ending::Status;
+use crate::status::Status;
 use sea_core::Core;
 
 /// The core of a script so far, and whether a line met want of memory or a fault of the disk.

@@ -2,13 +2,13 @@
 ghost use Rattle.std.specs.Prelude.{◌≡◌, ◌+◌, ◌-◌, ◌<◌, ◌≤◌, ◌++◌, min, length, take, drop, true, false, is_err, Some, IfOk, OnErr, vec_len, if◌then◌else◌};
 ghost use Rattle.std.specs.Vec.{vec_capacity};
 ghost use Rattle.sea_moment.specs.Moment.{IsMoment};
-ghost use Rattle.sea_faults.specs.Counts.{HasCause, one_more, faults_after, is_listed as is_listed_of};
+ghost use Rattle.sea_faults.specs.Counts.{HasCause, faults_after};
+ghost use Rattle.sea_faults.specs.Plans.{after_call, is_due};
 ghost use Rattle.sea_edge.specs.Bytes.{Takes, Gives};
 ghost use Rattle.sea_edge.specs.Memory.{placed};
 
-use crate::fault::counted;
-use crate::outside::{Clock, Failed, Sink, Source};
-use sea_faults::{is_listed, raise};
+use crate::outside::{Clock, Sink, Source};
+use sea_faults::{Failed, FaultPlan, counted};
 
 /// A source over memory. It gives at most `piece` bytes a call, and fails exactly the calls that are listed.
 #[derive(Drop)]
@@ -17,10 +17,8 @@ pub struct MemSource {
     pub bytes: Vec<u8>,
     /// The most bytes that one call gives.
     pub piece: usize,
-    /// The numbers of the calls that fail. The first call is number 1.
-    pub fails: Vec<u64>,
-    /// How many calls were made. The count stands still at `u64::MAX`.
-    pub calls: u64,
+    /// How many calls were made, and which fail.
+    pub plan: FaultPlan,
     /// How many calls failed. The count stands still at `u64::MAX`.
     pub failed: u64,
     /// How many bytes were given, of those in `bytes` the first.
@@ -35,16 +33,15 @@ impl MemSource {
         requires { 0 < piece }
         ensures bytes { result.bytes ≡ bytes }
         ensures piece { result.piece ≡ piece }
-        ensures fails { result.fails ≡ fails }
-        ensures calls { result.calls ≡ 0 }
+        ensures fails { result.plan.fails ≡ fails.items }
+        ensures calls { result.plan.made ≡ 0 }
         ensures failed { result.failed ≡ 0 }
         ensures given { result.given ≡ 0 }
     {
         MemSource {
             bytes,
             piece,
-            fails,
-            calls: 0,
+            plan: FaultPlan::of(fails),
             failed: 0,
             given: 0,
         }
@@ -62,20 +59,19 @@ impl Source for MemSource {
         ensures bytes { Takes (Some (drop self.old.given self.old.bytes.items))
             (Some (drop self.new.given self.new.bytes.items)) result into.new }
         ensures cause { HasCause result self.old.failed self.new.failed }
-        ensures fails { is_err result ≡ is_listed_of self.old.fails.items (one_more self.old.calls) }
+        ensures fails { is_err result ≡ is_due self.old.plan 0 }
         ensures count { IfOk result (λ count. count
             ≡ min self.old.piece (min (length into.old) (length self.old.bytes.items - self.old.given))) }
         ensures into { into.new
             ≡ take (placed result) (drop self.old.given self.old.bytes.items) ++ drop (placed result) into.old }
         ensures state { (within : _) × (self.new ≡ record self.old {
-          calls = one_more self.old.calls;
+          plan = after_call self.old.plan;
           failed = faults_after result self.old.failed;
           given = self.old.given + placed result;
           within = within;
         }) }
     {
-        raise(&mut self.calls);
-        if is_listed(&self.fails, self.calls) {
+        if self.plan.next_fails() {
             return Err(counted(&mut self.failed));
         }
         let left = &self.bytes[self.given..];
@@ -101,10 +97,8 @@ fn place(from: &[u8], into: &mut [u8], piece: usize) -> usize
 pub struct MemSink {
     /// All that it was given.
     pub taken: Vec<u8>,
-    /// The numbers of the calls that fail. The first call is number 1.
-    pub fails: Vec<u64>,
-    /// How many calls were made. The count stands still at `u64::MAX`.
-    pub calls: u64,
+    /// How many calls were made, and which fail.
+    pub plan: FaultPlan,
     /// How many calls failed. The count stands still at `u64::MAX`.
     pub failed: u64,
 }
@@ -112,12 +106,11 @@ pub struct MemSink {
 impl MemSink {
     /// A sink that holds `taken` already, and has not been called.
     pub fn new(taken: Vec<u8>, fails: Vec<u64>) -> Self
-        ensures { result ≡ record { taken = taken; fails = fails; calls = 0; failed = 0 } }
+        ensures { result ≡ record { taken = taken; plan = record { made = 0; fails = fails.items }; failed = 0 } }
     {
         MemSink {
             taken,
-            fails,
-            calls: 0,
+            plan: FaultPlan::of(fails),
             failed: 0,
         }
     }
@@ -131,19 +124,18 @@ impl Sink for MemSink {
     fn give(&mut self, piece: &[u8]) -> Result<(), Failed>
         ensures bytes { Gives (Some self.old.taken.items) (Some self.new.taken.items) result piece.now }
         ensures cause { HasCause result self.old.failed self.new.failed }
-        ensures listed { is_listed_of self.old.fails.items (one_more self.old.calls) ≡ true → is_err result ≡ true }
-        ensures memory { is_listed_of self.old.fails.items (one_more self.old.calls) ≡ false
+        ensures listed { is_due self.old.plan 0 ≡ true → is_err result ≡ true }
+        ensures memory { is_due self.old.plan 0 ≡ false
             → OnErr result (vec_capacity self.old.taken < vec_len self.old.taken + length piece.now) }
         ensures whole { self.new.taken.items ≡ (if is_err result then self.old.taken.items
             else self.old.taken.items ++ piece.now) }
         ensures state { self.new ≡ record self.old {
           taken = self.new.taken;
-          calls = one_more self.old.calls;
+          plan = after_call self.old.plan;
           failed = faults_after result self.old.failed;
         } }
     {
-        raise(&mut self.calls);
-        if is_listed(&self.fails, self.calls) {
+        if self.plan.next_fails() {
             return Err(counted(&mut self.failed));
         }
         let Ok(()) = self.taken.extend_from_slice(piece) else {

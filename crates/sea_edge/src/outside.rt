@@ -5,12 +5,7 @@ ghost use Rattle.sea_faults.specs.Counts.{HasCause};
 ghost use Rattle.sea_edge.specs.Bytes.{Takes, Gives};
 ghost use Rattle.sea_edge.specs.Minutes.{Tells};
 
-use thiserror::Error;
-
-/// A call of the outside failed. Its object's count of faults rose in that call.
-#[derive(Clone, Copy, Debug, PartialEq, Eq, Error)]
-#[error("the outside failed")]
-pub struct Failed;
+use sea_faults::Failed;
 
 /// Where bytes come from.
 pub trait Source {

@@ -6,8 +6,8 @@ ghost use Rattle.sea_moment.specs.Moment.{last_moment, IsMoment};
 ghost use Rattle.sea_faults.specs.Counts.{HasCause, faults_after};
 ghost use Rattle.sea_edge.specs.Bytes.{Gives};
 
-use crate::fault::counted;
-use crate::outside::{Clock, Failed, Sink, Source};
+use crate::outside::{Clock, Sink, Source};
+use sea_faults::{Failed, counted};
 use sea_moment::nearest;
 use std::io;
 use std::io::{Read, Write};

@@ -1,6 +1,5 @@
 -- Counts of faults, by which a caller knows that the outside failed and not the callee.
-use Rattle.std.specs.Prelude.{◌≡◌, ℕ, ◌+◌, ◌-◌, ◌^◌, ◌≤◌, ◌==◌, min, Bool, true, false, List, Result, Ok, Err}
-use Rattle.std.specs.List.{list_any}
+use Rattle.std.specs.Prelude.{◌≡◌, ℕ, ◌+◌, ◌-◌, ◌^◌, ◌≤◌, min, Bool, true, false, Result, Ok, Err}
 
 -- a count stands still here
 abbrev pub last_count : ℕ
@@ -33,7 +32,3 @@ counted_on false count = count
 abbrev pub faults_after : {T E : Type 0} → Result T E → ℕ → ℕ
 faults_after (Ok _) faults = faults
 faults_after (Err _) faults = one_more faults
-
--- the call of this number is one of those listed
-abbrev pub is_listed : List ℕ → ℕ → Bool
-is_listed calls number = list_any (λ call. call == number) calls

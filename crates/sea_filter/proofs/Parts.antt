@@ -1,7 +1,7 @@
 -- A part that doesn't stand at a place stands behind it, or nowhere from there on.
 use Rattle.std.proofs.Common.{◌≡◌, ℕ, zero, suc, ◌+◌, ◌<◌, List, [], ◌∷◌, length, drop, Bool, false, ◌||◌, nat_eq, sym, ap, ◌∙◌, arith}
 use Rattle.std.specs.List.{starts_with}
-use Rattle.sea_filter.specs.Met.{has_part}
+use Rattle.sea_filter.specs.Comparison.{has_part}
 
 behind : (part text : List ℕ) (at : ℕ) → at < length text → starts_with nat_eq (drop at text) part ≡ false → has_part part (drop (suc at) text) ≡ has_part part (drop at text)
 unfolding has_part

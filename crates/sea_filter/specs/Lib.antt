@@ -1,2 +1,2 @@
-pub mod Met
-pub mod Selected
+pub mod Comparison
+pub mod Selection

@@ -5,7 +5,7 @@
 //! calls it yet.
 #![tactic(auto)]
 
-mod meeting;
-mod selecting;
+mod comparison;
+mod selection;
 
-pub use selecting::{meets, selected};
+pub use selection::{meets, selected};

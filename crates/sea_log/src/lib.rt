@@ -6,19 +6,19 @@
 //! `append`: at any moment a stop leaves the list, or the list with the new payload, and after Ok the latter alone.
 #![tactic(auto)]
 
-mod appending;
-mod beginning;
-mod clearing;
+mod addition;
 mod fault;
+mod first_gate;
 mod laws;
 mod list;
 mod piece;
-mod scanning;
+mod removal;
+mod traversal;
 
-pub use appending::append;
-pub use beginning::begin;
-pub use clearing::clear;
+pub use addition::append;
 pub use fault::LogFault;
+pub use first_gate::begin;
 pub use laws::one_list_at_most;
 pub use list::{Payloads, Scan};
-pub use scanning::{OPEN, SHORTEST_LOG, scan};
+pub use removal::clear;
+pub use traversal::{OPEN, SHORTEST_LOG, scan};

@@ -2,9 +2,9 @@
 use Rattle.std.proofs.Common.{◌≡◌, ℕ, List, Bool, ap, ◌∙◌}
 use Rattle.sea_cell.specs.declared.keys.TableNo.{TableNo}
 use Rattle.sea_schema.specs.Layout.{Layout}
-use Rattle.sea_plain.specs.declared.base.Plain.{Plain}
-use Rattle.sea_plain.specs.declared.seen.Counters.{Counters}
-use Rattle.sea_plain.specs.Seen.{seen_of}
+use Rattle.sea_operation.specs.declared.base.Plain.{Plain}
+use Rattle.sea_operation.specs.declared.seen.Counters.{Counters}
+use Rattle.sea_operation.specs.Seen.{seen_of}
 use Rattle.sea_ops.specs.Beside.{seen_beside, Shows}
 
 -- two tests that agree everywhere are one

@@ -4,7 +4,7 @@ use Rattle.std.proofs.lemmas.Str.{IsUtf8-from_is_utf8}
 use Rattle.std.specs.Str.{is_utf8}
 use Rattle.serde_json.specs.Data.{Data}
 use Rattle.serde_json.specs.Read.{read}
-use Rattle.sea_plain.specs.declared.operation.Op.{Op}
+use Rattle.sea_operation.specs.declared.operation.Op.{Op}
 use Rattle.sea_ops.specs.Operations.{op_of, op_of_json}
 use Rattle.sea_ops.specs.Texts.{json_of, text_of}
 use Rattle.sea_ops.proofs.DataRead.{sound-read}

@@ -4,7 +4,7 @@ use Rattle.std.specs.Cmp.Lexicographic.{slice_cmp}
 use Rattle.std.specs.Ordering.{nat_cmp, match_ordering, ordering_reverse}
 use Rattle.std.proofs.lemmas.Cmp.{nat_list_cmp_total}
 use Rattle.serde_json.specs.Data.{Data, Members, no_members, member, put}
-use Rattle.sea_plain.specs.declared.operation.NamedCell.{NamedCell}
+use Rattle.sea_operation.specs.declared.operation.NamedCell.{NamedCell}
 use Rattle.sea_ops.specs.Texts.{json_of_word, with_cells}
 use Rattle.sea_ops.specs.Straight.{is_before, begin_in_order, are_in_order, members_of}
 

@@ -10,6 +10,3 @@ pub mod StraightTexts
 pub mod OpsAgain
 pub mod OpsForms
 pub mod FormsLaws
-pub mod RecordLaws
-pub mod RecordEntries
-pub mod RecordPlaces

@@ -12,14 +12,14 @@ use Rattle.serde_json.proofs.Views.{get_member-put}
 use Rattle.sea_cell.specs.Kinds.{kind_of}
 use Rattle.sea_cell.specs.Words.{texts_of, or_odd, word_of}
 use Rattle.sea_cell.specs.declared.keys.RowId.{RowId}
-use Rattle.sea_cell.specs.declared.layout.ColKind.{ColKind}
-use Rattle.sea_cell.specs.declared.layout.ColKind.TheVariants as kind
-use Rattle.sea_cell.specs.declared.layout.NewColumn.{NewColumn}
+use Rattle.sea_cell.specs.declared.column.ColKind.{ColKind}
+use Rattle.sea_cell.specs.declared.column.ColKind.TheVariants as kind
+use Rattle.sea_cell.specs.declared.column.NewColumn.{NewColumn}
 use Rattle.sea_cell.specs.declared.words.CellWord.{CellWord}
 use Rattle.sea_cell.specs.declared.words.CellWord.TheVariants.{Whole, List as TextList, Odd}
-use Rattle.sea_plain.specs.declared.operation.NamedCell.{NamedCell}
-use Rattle.sea_plain.specs.declared.operation.NewFilter.{NewFilter}
-use Rattle.sea_plain.specs.declared.operation.OpRow.{OpRow}
+use Rattle.sea_operation.specs.declared.operation.NamedCell.{NamedCell}
+use Rattle.sea_operation.specs.declared.operation.NewFilter.{NewFilter}
+use Rattle.sea_operation.specs.declared.operation.OpRow.{OpRow}
 use Rattle.sea_ops.specs.Operations.{has_members, text_at, items_at, texts_at, ids_at, row_id, each_of, each_at, unit_of, options_of, plain_column, number_column, select_column, link_column, plain_of, number_of, select_of, link_of, column_of_kind, column_of_json, cells_of_members, row_with_id, row_of_json, change_of_row, change_of_json, conjunction_of, new_filter, filter_of_json, new_view, view_of_json, where_}
 use Rattle.sea_ops.specs.Texts.{is_whole, odd, json_of_word, with_cells, row_json, change_json, column_of_kind_json, column_json, filter_json, view_json}
 use Rattle.sea_ops.proofs.DataRead.{IsSoundNumber, IsBelow, IsSound, AreSoundItems, AreSoundMembers, sound-put, If, if-map, if-and_then}

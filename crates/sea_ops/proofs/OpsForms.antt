@@ -4,9 +4,9 @@ use Rattle.std.specs.Str.{bytes_eq}
 use Rattle.json.proofs.Printed.Utf8.{IsUtf8-are_ascii}
 use Rattle.serde_json.specs.Data.{Data}
 use Rattle.sea_cell.specs.declared.keys.RowId.{RowId}
-use Rattle.sea_plain.specs.declared.operation.NewView.{NewView}
-use Rattle.sea_plain.specs.declared.operation.Op.{Op}
-use Rattle.sea_plain.specs.declared.operation.Op.TheVariants as op
+use Rattle.sea_operation.specs.declared.operation.NewView.{NewView}
+use Rattle.sea_operation.specs.declared.operation.Op.{Op}
+use Rattle.sea_operation.specs.declared.operation.Op.TheVariants as op
 use Rattle.sea_ops.specs.Operations.{has_members, text_at, texts_at, ids_at, row_id, each_at, column_of_json, row_of_json, change_of_json, view_of_json, where_, make_table, leads_away, insert_table_of, rename_table_of, delete_table_of, insert_column_of, rename_column_of, delete_column_of, add_options_of, append_rows_of, modify_rows_of, delete_rows_of, add_link_of, remove_link_of, insert_view_of, modify_view_of, delete_view_of, view_op, link_op, row_op, column_op, table_op, op_of_json}
 use Rattle.sea_ops.specs.Texts.{column_json, row_json, change_json, view_json, links_json, put_view_json, json_of}
 use Rattle.sea_ops.proofs.DataRead.{IsSound, AreSoundItems, If, if-map, if-and_then}

@@ -8,19 +8,19 @@ use Rattle.serde_json.specs.Find.{of_integer}
 use Rattle.serde_json.specs.View.{items_of}
 use Rattle.serde_json.specs.Written.{has_float, items_have_float, members_have_float}
 use Rattle.sea_cell.specs.declared.keys.RowId.{RowId}
-use Rattle.sea_cell.specs.declared.layout.ColKind.{ColKind}
-use Rattle.sea_cell.specs.declared.layout.ColKind.TheVariants as kind
-use Rattle.sea_cell.specs.declared.layout.NewColumn.{NewColumn}
-use Rattle.sea_cell.specs.declared.layout.NewEnd.{NewEnd}
+use Rattle.sea_cell.specs.declared.column.ColKind.{ColKind}
+use Rattle.sea_cell.specs.declared.column.ColKind.TheVariants as kind
+use Rattle.sea_cell.specs.declared.column.NewColumn.{NewColumn}
+use Rattle.sea_cell.specs.declared.column.NewEnd.{NewEnd}
 use Rattle.sea_cell.specs.declared.words.CellWord.{CellWord}
 use Rattle.sea_cell.specs.declared.words.CellWord.TheVariants.{Null, Check, Whole, Text, List as TextList, Odd}
-use Rattle.sea_plain.specs.declared.operation.NamedCell.{NamedCell}
-use Rattle.sea_plain.specs.declared.operation.NewFilter.{NewFilter}
-use Rattle.sea_plain.specs.declared.operation.NewView.{NewView}
-use Rattle.sea_plain.specs.declared.operation.OpRow.{OpRow}
-use Rattle.sea_plain.specs.declared.operation.RowChange.{RowChange}
-use Rattle.sea_plain.specs.declared.operation.Op.{Op}
-use Rattle.sea_plain.specs.declared.operation.Op.TheVariants as op
+use Rattle.sea_operation.specs.declared.operation.NamedCell.{NamedCell}
+use Rattle.sea_operation.specs.declared.operation.NewFilter.{NewFilter}
+use Rattle.sea_operation.specs.declared.operation.NewView.{NewView}
+use Rattle.sea_operation.specs.declared.operation.OpRow.{OpRow}
+use Rattle.sea_operation.specs.declared.operation.RowChange.{RowChange}
+use Rattle.sea_operation.specs.declared.operation.Op.{Op}
+use Rattle.sea_operation.specs.declared.operation.Op.TheVariants as op
 use Rattle.sea_ops.specs.Texts.{is_whole, odd, json_of_word, with_cells, with_id, row_json, change_json, column_of_kind_json, column_json, filter_json, view_json, json_of}
 
 -- ---- no float

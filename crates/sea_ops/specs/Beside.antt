@@ -2,9 +2,9 @@
 use Rattle.std.specs.Prelude.{◌≡◌, ℕ, List, Bool, map}
 use Rattle.sea_cell.specs.declared.keys.TableNo.{TableNo}
 use Rattle.sea_schema.specs.Layout.{Layout}
-use Rattle.sea_plain.specs.declared.base.Plain.{Plain}
-use Rattle.sea_plain.specs.declared.seen.Counters.{Counters}
-use Rattle.sea_plain.specs.Seen.{Seen, seen_of}
+use Rattle.sea_operation.specs.declared.base.Plain.{Plain}
+use Rattle.sea_operation.specs.declared.seen.Counters.{Counters}
+use Rattle.sea_operation.specs.Seen.{Seen, seen_of}
 
 -- the tables of the schema, the numbers, the ids that rows have, which rows are linked, and how many pairs there are
 abbrev pub seen_beside : Layout → Counters → (TableNo → List ℕ → Bool) → (ℕ → List ℕ → List ℕ → Bool) → ℕ → Seen

@@ -2,4 +2,3 @@ pub mod Beside
 pub mod Operations
 pub mod Texts
 pub mod Straight
-pub mod Record

@@ -9,16 +9,16 @@ use Rattle.serde_json.specs.Read.{read}
 use Rattle.sea_cell.specs.Kinds.{kind_of}
 use Rattle.sea_cell.specs.Words.{texts_of, word_of}
 use Rattle.sea_cell.specs.declared.keys.RowId.{RowId}
-use Rattle.sea_cell.specs.declared.layout.ColKind.{ColKind}
-use Rattle.sea_cell.specs.declared.layout.ColKind.TheVariants as kind
-use Rattle.sea_cell.specs.declared.layout.NewColumn.{NewColumn}
-use Rattle.sea_plain.specs.declared.operation.NamedCell.{NamedCell}
-use Rattle.sea_plain.specs.declared.operation.NewFilter.{NewFilter}
-use Rattle.sea_plain.specs.declared.operation.NewView.{NewView}
-use Rattle.sea_plain.specs.declared.operation.Op.{Op}
-use Rattle.sea_plain.specs.declared.operation.Op.TheVariants as op
-use Rattle.sea_plain.specs.declared.operation.OpRow.{OpRow}
-use Rattle.sea_plain.specs.declared.operation.RowChange.{RowChange}
+use Rattle.sea_cell.specs.declared.column.ColKind.{ColKind}
+use Rattle.sea_cell.specs.declared.column.ColKind.TheVariants as kind
+use Rattle.sea_cell.specs.declared.column.NewColumn.{NewColumn}
+use Rattle.sea_operation.specs.declared.operation.NamedCell.{NamedCell}
+use Rattle.sea_operation.specs.declared.operation.NewFilter.{NewFilter}
+use Rattle.sea_operation.specs.declared.operation.NewView.{NewView}
+use Rattle.sea_operation.specs.declared.operation.Op.{Op}
+use Rattle.sea_operation.specs.declared.operation.Op.TheVariants as op
+use Rattle.sea_operation.specs.declared.operation.OpRow.{OpRow}
+use Rattle.sea_operation.specs.declared.operation.RowChange.{RowChange}
 
 -- ---- members
 

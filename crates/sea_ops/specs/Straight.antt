@@ -7,7 +7,7 @@ use Rattle.json.specs.Tree.{json_tokens, items_tokens, members_tokens}
 use Rattle.serde_json.specs.Data.{Data, string, object, Members, no_members, member, put}
 use Rattle.serde_json.specs.View.{items_of}
 use Rattle.serde_json.specs.Written.{outline, items_outline, members_outline}
-use Rattle.sea_plain.specs.declared.operation.NamedCell.{NamedCell}
+use Rattle.sea_operation.specs.declared.operation.NamedCell.{NamedCell}
 use Rattle.sea_ops.specs.Texts.{json_of_word, with_cells}
 
 -- the tokens of a value

@@ -7,19 +7,19 @@ use Rattle.serde_json.specs.Written.{compact_text}
 use Rattle.sea_cell.specs.Conversion.{texts_json, ids_json}
 use Rattle.sea_cell.specs.Kinds.{word_of_kind}
 use Rattle.sea_cell.specs.declared.keys.RowId.{RowId}
-use Rattle.sea_cell.specs.declared.layout.ColKind.{ColKind}
-use Rattle.sea_cell.specs.declared.layout.ColKind.TheVariants as kind
-use Rattle.sea_cell.specs.declared.layout.NewColumn.{NewColumn}
-use Rattle.sea_cell.specs.declared.layout.NewEnd.{NewEnd}
+use Rattle.sea_cell.specs.declared.column.ColKind.{ColKind}
+use Rattle.sea_cell.specs.declared.column.ColKind.TheVariants as kind
+use Rattle.sea_cell.specs.declared.column.NewColumn.{NewColumn}
+use Rattle.sea_cell.specs.declared.column.NewEnd.{NewEnd}
 use Rattle.sea_cell.specs.declared.words.CellWord.{CellWord}
 use Rattle.sea_cell.specs.declared.words.CellWord.TheVariants.{Null, Check, Whole, Text, List as TextList, Odd}
-use Rattle.sea_plain.specs.declared.operation.NamedCell.{NamedCell}
-use Rattle.sea_plain.specs.declared.operation.NewFilter.{NewFilter}
-use Rattle.sea_plain.specs.declared.operation.NewView.{NewView}
-use Rattle.sea_plain.specs.declared.operation.OpRow.{OpRow}
-use Rattle.sea_plain.specs.declared.operation.RowChange.{RowChange}
-use Rattle.sea_plain.specs.declared.operation.Op.{Op}
-use Rattle.sea_plain.specs.declared.operation.Op.TheVariants as op
+use Rattle.sea_operation.specs.declared.operation.NamedCell.{NamedCell}
+use Rattle.sea_operation.specs.declared.operation.NewFilter.{NewFilter}
+use Rattle.sea_operation.specs.declared.operation.NewView.{NewView}
+use Rattle.sea_operation.specs.declared.operation.OpRow.{OpRow}
+use Rattle.sea_operation.specs.declared.operation.RowChange.{RowChange}
+use Rattle.sea_operation.specs.declared.operation.Op.{Op}
+use Rattle.sea_operation.specs.declared.operation.Op.TheVariants as op
 
 -- ---- words
 

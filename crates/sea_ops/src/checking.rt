@@ -3,15 +3,16 @@ ghost use Rattle.std.specs.Prelude.{◌≡◌, ◌&&◌, ◌||◌, ℕ, List, Bo
 ghost use Rattle.std.specs.BTreeSet.{contains_text};
 ghost use Rattle.std.specs.Str.{bytes_eq};
 ghost use Rattle.sea_cell.specs.declared.keys.TableNo.{TableNo};
-ghost use Rattle.sea_plain.specs.declared.base.Plain.{Plain};
-ghost use Rattle.sea_plain.specs.declared.seen.Counters.{Counters};
-ghost use Rattle.sea_plain.specs.Checks.{Checks};
-ghost use Rattle.sea_plain.specs.Refusal.{seen_refusal};
-ghost use Rattle.sea_plain.specs.Seen.{seen_of};
+ghost use Rattle.sea_operation.specs.declared.base.Plain.{Plain};
+ghost use Rattle.sea_operation.specs.declared.seen.Counters.{Counters};
+ghost use Rattle.sea_operation.specs.Checks.{Checks};
+ghost use Rattle.sea_operation.specs.Refusal.{seen_refusal};
+ghost use Rattle.sea_operation.specs.Seen.{seen_of};
 ghost use Rattle.sea_ops.specs.Beside.{seen_beside, Shows};
 
 use sea_cell::{RowId, TableNo, insert_text};
-use sea_plain::{Counters, Op, OpRefusal, SeenBase, check as check_seen};
+use sea_operation::{Counters, Op, OpRefusal, SeenBase};
+use sea_refusal::check as check_seen;
 use sea_schema::{Schema, Table};
 use std::alloc::{AllocError, Global};
 use std::collections::BTreeSet;

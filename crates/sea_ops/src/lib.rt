@@ -1,9 +1,9 @@
-//! Operations as JSON, both ways, and the record of an entry in a log.
+//! Operations as JSON, both ways.
 //!
-//! It stands on the plain base's operations, on JSON values and on binary fields. The contracts that matter to the
-//! crates above are those of `op_of_json`: which operation a text is, or that it is none; and of `record_of_entry` and
-//! `entry_of_record`, by which a log gives back the entries that it took. `check` gives the first refusal of an operation
-//! over a schema and the rows beside it, for a base that doesn't hold all of its rows; no program calls it yet.
+//! It stands on the plain base's operations and on JSON values. The contract that matters to the crates above is that
+//! of `op_of_json`: which operation a text is, or that it is none; beside it stands that of `op_text`, the one canonical
+//! text of an operation. `check` gives the first refusal of an operation over a schema and the rows beside it, for a base
+//! that doesn't hold all of its rows; no program calls it yet.
 #![tactic(auto)]
 
 mod arrays;
@@ -13,7 +13,6 @@ mod fault;
 mod laws;
 mod members;
 mod reading;
-mod record;
 mod rows;
 mod straight;
 mod views;
@@ -21,7 +20,6 @@ mod writing;
 
 pub use checking::{RowsSeen, check};
 pub use fault::OpFault;
-pub use laws::{operations_have_no_float, records_have_one_entry, texts_are_forms};
-pub use reading::op_of_json;
-pub use record::{entry_of_record, record_of_entry};
+pub use laws::{operations_have_no_float, texts_are_forms};
+pub use reading::{op_of_bytes, op_of_json};
 pub use writing::{op_json, op_text};

@@ -10,7 +10,7 @@ use crate::fault::OpFault;
 use crate::members::{has_members, id_at, ids_at, text_at, texts_at};
 use crate::views::view_at;
 use sea_cell::Text;
-use sea_plain::Op;
+use sea_operation::Op;
 use serde_json::Value;
 use std::alloc::{AllocError, Global};
 
@@ -27,8 +27,8 @@ pub fn op_of_json(alloc: Global, text: &[u8]) -> Result<Op, OpFault>
     }
 }
 
-/// The same, where None says that the text is no operation.
-pub(crate) fn op_of_bytes(alloc: Global, text: &[u8]) -> Result<Option<Op>, AllocError>
+/// The operation that a text is, as `op_of_json` has it, or None where it is none. It fails only where no memory is left.
+pub fn op_of_bytes(alloc: Global, text: &[u8]) -> Result<Option<Op>, AllocError>
     ensures { IfOk result (λ op. op ≡ op_of text.now) }
 {
     let Ok(text) = str::from_utf8(text) else {

@@ -5,7 +5,7 @@ ghost use Rattle.sea_ops.specs.Operations.{row_of_json as row_of_data, change_of
 
 use crate::arrays::OfJson;
 use sea_cell::{RowId, Text, word_of_json};
-use sea_plain::{NamedCell, NamedCells, OpRow, RowChange};
+use sea_operation::{NamedCell, NamedCells, OpRow, RowChange};
 use serde_json::{Map, Value};
 use sqlite_items::Items;
 use std::alloc::{AllocError, Global};

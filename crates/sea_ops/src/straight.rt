@@ -3,14 +3,14 @@ ghost use Rattle.std.specs.Prelude.{◌≡◌, ◌++◌, List, ◌∷◌, map, o
 ghost use Rattle.serde_json.specs.Data.{Members, member, string};
 ghost use Rattle.serde_json.specs.Written.{compact_text};
 ghost use Rattle.sea_cell.specs.Conversion.{texts_json};
-ghost use Rattle.sea_plain.specs.declared.operation.NamedCell.{NamedCell};
+ghost use Rattle.sea_operation.specs.declared.operation.NamedCell.{NamedCell};
 ghost use Rattle.sea_ops.specs.Straight.{value_tokens, all_tokens, tokens_of_members, is_before as is_before_of, begin_in_order as begin_in_order_of, are_in_order as are_in_order_of, members_of, members_left, cells_json, head_tokens, tail_tokens, id_tokens};
 ghost use Rattle.sea_ops.specs.Texts.{text_of, append_rows_json, modify_rows_json, row_json, change_json, with_id_json, json_of_word, whole_json, odd};
 
 use json::Writer;
 use sea_cell::{CellWord, Text};
 use sea_fields::Bytes;
-use sea_plain::{NamedCell, Op, OpRow, RowChange};
+use sea_operation::{NamedCell, Op, OpRow, RowChange};
 use std::alloc::{AllocError, Global};
 use std::cmp::Ordering;
 

@@ -7,7 +7,7 @@ ghost use Rattle.sea_ops.specs.Operations.{view_of_json as view_of_data, filter_
 use crate::arrays::{OfJson, list_at};
 use crate::members::{has_members, text_at};
 use sea_cell::{Text, word_of_json};
-use sea_plain::{NewFilter, NewView};
+use sea_operation::{NewFilter, NewView};
 use serde_json::Value;
 use std::alloc::{AllocError, Global};
 

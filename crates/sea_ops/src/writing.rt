@@ -8,7 +8,7 @@ use crate::arrays::{ToJson, array_json};
 use crate::straight::rows_text;
 use sea_cell::{CellWord, ColKind, NewColumn, RowId, Text, ids_json, texts_json, type_word};
 use sea_fields::Bytes;
-use sea_plain::{NamedCell, NewFilter, NewView, Op, OpRow, RowChange};
+use sea_operation::{NamedCell, NewFilter, NewView, Op, OpRow, RowChange};
 use serde_json::{Map, Value, json, put};
 use std::alloc::{AllocError, Global};
 

@@ -3,8 +3,8 @@ use Rattle.std.proofs.Common.{◌≡◌, ℕ, List, [], ◌∷◌, Bool, true, f
 use Rattle.std.specs.Str.{bytes_eq}
 use Rattle.sea_schema.specs.Tables.{table_named}
 use Rattle.sea_schema.specs.declared.table.Table.{Table}
-use Rattle.sea_plain.specs.Base.{plain_named}
-use Rattle.sea_plain.specs.declared.base.PlainTable.{PlainTable}
+use Rattle.sea_operation.specs.Base.{plain_named}
+use Rattle.sea_operation.specs.declared.base.PlainTable.{PlainTable}
 
 pick : (here : Bool) (plain : PlainTable) (rest : Option PlainTable) (tables : Option Table) → option_map (λ it. it.table) rest ≡ tables → option_map (λ (it : PlainTable). it.table) (cond here (Some plain) rest) ≡ cond here (Some plain.table) tables
 pick true plain rest tables same = refl

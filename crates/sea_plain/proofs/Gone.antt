@@ -1,11 +1,11 @@
 -- A set of ids stands for the list of them.
 use Rattle.std.proofs.Common.{◌≡◌, ℕ, ◌==◌, ◌&&◌, ◌||◌, List, [], ◌∷◌, Bool, not, refl, ap, ◌∙◌}
 use Rattle.std.specs.List.{list_any}
-use Rattle.sea_cell.specs.Once.{is_among}
-use Rattle.sea_cell.specs.declared.layout.LinkEnd.{LinkEnd}
+use Rattle.sea_text.specs.Distinct.{is_among}
+use Rattle.sea_cell.specs.declared.column.LinkEnd.{LinkEnd}
 use Rattle.sea_links.specs.Pairs.{side}
 use Rattle.sea_links.specs.declared.pair.LinkPair.{LinkPair}
-use Rattle.sea_plain.specs.Joined.{has_row_at, has_no_row}
+use Rattle.sea_operation.specs.Joined.{has_row_at, has_no_row}
 
 -- the pair has one of the ids for which a test holds at this end
 abbrev has_at : (List ℕ → Bool) → LinkPair → LinkEnd → Bool

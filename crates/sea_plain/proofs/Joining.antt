@@ -1,13 +1,13 @@
 -- Two tables that get the ends of a link one after another have a link.
 use Rattle.std.proofs.Common.{◌≡◌, ℕ, ◌+◌, List, map, true, false, ap, ◌∙◌}
-use Rattle.sea_cell.specs.declared.layout.LinkEnd.{LinkEnd}
-use Rattle.sea_cell.specs.declared.layout.NewEnd.{NewEnd}
+use Rattle.sea_cell.specs.declared.column.LinkEnd.{LinkEnd}
+use Rattle.sea_cell.specs.declared.column.NewEnd.{NewEnd}
 use Rattle.sea_schema.specs.Layout.{end_towards}
 use Rattle.sea_schema.specs.Tables.{with_link_column}
-use Rattle.sea_plain.specs.declared.base.Plain.{Plain}
-use Rattle.sea_plain.specs.declared.base.PlainTable.{PlainTable}
-use Rattle.sea_plain.specs.Apply.{in_plain, with_link_in}
-use Rattle.sea_plain.specs.Schemas.{schema_of}
+use Rattle.sea_operation.specs.declared.base.Plain.{Plain}
+use Rattle.sea_operation.specs.declared.base.PlainTable.{PlainTable}
+use Rattle.sea_operation.specs.Apply.{in_plain, with_link_in}
+use Rattle.sea_operation.specs.Schemas.{schema_of}
 
 -- the tables with an end in the one of a name
 abbrev with_end : List ℕ → ℕ → List ℕ → LinkEnd → List PlainTable → List PlainTable

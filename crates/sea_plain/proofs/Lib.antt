@@ -1,11 +1,6 @@
-pub mod Alike
-pub mod Firsts
-pub mod Joining
-pub mod Linkless
-pub mod Numbered
-pub mod Numbers
-pub mod Repeats
-pub mod Stamps
-pub mod Filtered
 pub mod Found
 pub mod Gone
+pub mod Joining
+pub mod Linkless
+pub mod Numbers
+pub mod Stamps

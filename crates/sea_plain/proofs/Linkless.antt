@@ -2,11 +2,11 @@
 use Rattle.std.proofs.Common.{◌≡◌, List, [], ◌∷◌, fold, Bool, true, false, ◌||◌, is_some, Option, Some, None, refl, sym, ap, ◌∙◌}
 use Rattle.std.specs.List.{list_any}
 use Rattle.std.specs.Option.{option_map_or}
-use Rattle.sea_cell.specs.declared.cellular.Cell.{Cell}
-use Rattle.sea_cell.specs.declared.cellular.Row.{Row}
+use Rattle.sea_cell.specs.declared.row.Cell.{Cell}
+use Rattle.sea_cell.specs.declared.row.Row.{Row}
 use Rattle.sea_cell.specs.declared.keys.RowId.{RowId}
-use Rattle.sea_cell.specs.declared.layout.Column.{Column}
-use Rattle.sea_cell.specs.declared.layout.LinkEnd.{LinkEnd}
+use Rattle.sea_cell.specs.declared.column.Column.{Column}
+use Rattle.sea_cell.specs.declared.column.LinkEnd.{LinkEnd}
 use Rattle.sea_links.specs.declared.pair.LinkPair.{LinkPair}
 use Rattle.sea_plain.specs.Linked.{with_links, row_shown}
 

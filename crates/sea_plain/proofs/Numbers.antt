@@ -1,13 +1,13 @@
 -- Numbers that aren't spent have room for what an operation makes.
 use Rattle.std.proofs.Common.{◌≡◌, ◌⊎◌, ℕ, ◌+◌, ◌^◌, ◌≤◌, Bool, true, false, cond, nat_lt, ◌&&◌, Option, Some, None, inl, inr, refl}
 use Rattle.std.proofs.lemmas.Bool.{ltb-false}
-use Rattle.sea_plain.specs.declared.operation.Op.{Op}
-use Rattle.sea_plain.specs.declared.refusal.Counter.{Counter}
-use Rattle.sea_plain.specs.declared.refusal.Counter.TheVariants as counter
-use Rattle.sea_plain.specs.declared.refusal.OpRefusal.TheVariants.{NumbersSpent}
-use Rattle.sea_plain.specs.Makes.{columns_made, links_made, tables_made, rows_made}
-use Rattle.sea_plain.specs.Refusal.{or_else, spent, numbers_spent, seen_refusal}
-use Rattle.sea_plain.specs.Seen.{Seen}
+use Rattle.sea_operation.specs.declared.operation.Op.{Op}
+use Rattle.sea_operation.specs.declared.refusal.Counter.{Counter}
+use Rattle.sea_operation.specs.declared.refusal.Counter.TheVariants as counter
+use Rattle.sea_operation.specs.declared.refusal.OpRefusal.TheVariants.{NumbersSpent}
+use Rattle.sea_operation.specs.Makes.{columns_made, links_made, tables_made, rows_made}
+use Rattle.sea_operation.specs.Refusal.{or_else, spent, numbers_spent, seen_refusal}
+use Rattle.sea_operation.specs.Seen.{Seen}
 
 -- where neither of two is there
 neither : {X : Type 0} → (one other : Option X) → or_else one other ≡ None → (one ≡ None) × (other ≡ None)

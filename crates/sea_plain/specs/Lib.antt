@@ -1,13 +1,1 @@
-pub mod Apply
-pub mod Base
-pub mod Checks
-pub mod Firsts
-pub mod Joined
 pub mod Linked
-pub mod Makes
-pub mod Names
-pub mod Refusal
-pub mod RowsOf
-pub mod Schemas
-pub mod Seen
-pub mod Viewed

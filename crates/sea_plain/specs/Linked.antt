@@ -2,17 +2,17 @@
 use Rattle.std.specs.Prelude.{List, [], ◌∷◌, fold, map}
 use Rattle.std.specs.Option.{option_map_or}
 use Rattle.sea_cell.specs.Cells.{with_cell}
-use Rattle.sea_cell.specs.declared.cellular.Cell.{Cell}
-use Rattle.sea_cell.specs.declared.cellular.Row.{Row}
+use Rattle.sea_cell.specs.declared.row.Cell.{Cell}
+use Rattle.sea_cell.specs.declared.row.Row.{Row}
 use Rattle.sea_cell.specs.declared.keys.RowId.{RowId}
-use Rattle.sea_cell.specs.declared.layout.Column.{Column}
-use Rattle.sea_cell.specs.declared.layout.LinkEnd.{LinkEnd}
+use Rattle.sea_cell.specs.declared.column.Column.{Column}
+use Rattle.sea_cell.specs.declared.column.LinkEnd.{LinkEnd}
 use Rattle.sea_cell.specs.declared.values.CellValue.{CellValue}
 use Rattle.sea_cell.specs.declared.values.CellValue.TheVariants.{Empty, Links}
 use Rattle.sea_links.specs.Pairs.{others_of}
 use Rattle.sea_links.specs.declared.pair.LinkPair.{LinkPair}
-use Rattle.sea_plain.specs.declared.base.Plain.{Plain}
-use Rattle.sea_plain.specs.declared.base.PlainTable.{PlainTable}
+use Rattle.sea_operation.specs.declared.base.Plain.{Plain}
+use Rattle.sea_operation.specs.declared.base.PlainTable.{PlainTable}
 use Rattle.sea_plain.specs.declared.linked.TableRows.{TableRows}
 
 -- linked rows as a cell; it's empty where there are none

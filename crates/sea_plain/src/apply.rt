@@ -1,21 +1,19 @@
 // What an accepted operation makes of a base, and the slow calls that apply entries.
 ghost use Rattle.std.specs.Prelude.{◌≡◌, ◌≢◌, ◌≤◌, ◌⊎◌, ◌+◌, ◌^◌, None, Ok, Err, IfOk, MatchResult};
 ghost use Rattle.sea_cell.specs.Answers.{Answers};
-ghost use Rattle.sea_plain.specs.Apply.{applied as applied_to, apply, after};
-ghost use Rattle.sea_plain.specs.Refusal.{new_rows as new_rows_of, numbers_spent, some_moment};
-ghost use Rattle.sea_plain.specs.Seen.{seen_of};
+ghost use Rattle.sea_operation.specs.Apply.{applied as applied_to, apply, after};
+ghost use Rattle.sea_operation.specs.Refusal.{new_rows as new_rows_of, numbers_spent, some_moment};
+ghost use Rattle.sea_operation.specs.Seen.{seen_of};
 
-use crate::base::Plain;
-use crate::checking::new_rows;
 use crate::ends::links_gone;
 use crate::joined::pairs_after;
-use crate::limits::changes_fit;
-use crate::made::stamped_rows;
-use crate::makes::{columns_made, links_made, rows_made, tables_made};
-use crate::operation::{Entries, Entry, Op};
-use crate::refusal::OpRefusal;
 use crate::tables::{columns_named, tables_after};
 use sea_cell::{Duplicate, Moment, Row};
+use sea_operation::{
+    Entries, Entry, Op, OpRefusal, Plain, columns_made, links_made, rows_made, stamped_rows,
+    tables_made,
+};
+use sea_refusal::{changes_fit, new_rows};
 use std::alloc::{AllocError, Global};
 
 /// The base after an entry, or the first refusal of the entry's operation. The base itself stays as it is.

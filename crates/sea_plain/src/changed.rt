@@ -3,33 +3,15 @@ ghost use Rattle.std.specs.Prelude.{◌≡◌, not, map, filter, IfOk};
 ghost use Rattle.std.specs.BTreeSet.{contains_text};
 ghost use Rattle.std.specs.Option.{option_copied};
 ghost use Rattle.sea_schema.specs.Tables.{key_named};
-ghost use Rattle.sea_cell.specs.Named.{listed};
-ghost use Rattle.sea_plain.specs.RowsOf.{changed_row as changed_row_of, change_of as change_of_id, after_changes as after_changes_of, without_cell as without_cell_of, has_other_id as has_other_id_of};
+ghost use Rattle.sea_text.specs.Named.{listed};
+ghost use Rattle.sea_operation.specs.RowsOf.{change_of as change_of_id, after_changes as after_changes_of, without_cell as without_cell_of, has_other_id as has_other_id_of};
 
-use crate::made::put_members;
-use crate::names::set_of;
-use crate::operation::RowChange;
 use sea_cell::{CellValue, ColKey, Columns, Duplicate, Moment, Row, RowId, Rows, Shared};
+use sea_operation::{RowChange, changed_row, set_of};
 use sea_schema::Table;
 use sqlite_items::Items;
 use std::alloc::{AllocError, Global};
 use std::collections::BTreeSet;
-
-/// A row with the given cells replaced, last changed at a moment.
-pub fn changed_row(
-    alloc: Global,
-    columns: Option<&Columns>,
-    moment: Moment,
-    change: &RowChange,
-    row: &Row,
-) -> Result<Row, AllocError>
-    ensures { IfOk result (λ new. new ≡ changed_row_of (listed columns.entry) moment change.now row.now) }
-{
-    let mut new = row.duplicate(alloc)?;
-    put_members(alloc, columns, &mut new.cells, change.cells.as_slice())?;
-    new.changed = moment;
-    Ok(new)
-}
 
 /// The rows after the changes of an operation. Those that it doesn't name are shared.
 pub fn rows_after_changes(

@@ -2,13 +2,11 @@
 ghost use Rattle.std.specs.Prelude.{◌≡◌, ◌+◌, ◌<◌, ◌^◌, map, IfOk};
 ghost use Rattle.sea_schema.specs.Layout.{end_towards as end_towards_of, number_named as number_named_of, links_of_table as links_of_table_of, links_of_column as links_of_column_of};
 ghost use Rattle.sea_schema.specs.Tables.{with_link_column};
-ghost use Rattle.sea_plain.specs.Apply.{without_ends_in, in_plain, with_link_in, links_gone as links_gone_of};
-ghost use Rattle.sea_plain.specs.Schemas.{schema_of};
+ghost use Rattle.sea_operation.specs.Apply.{without_ends_in, in_plain, with_link_in, links_gone as links_gone_of};
+ghost use Rattle.sea_operation.specs.Schemas.{schema_of};
 
-use crate::base::{Plain, PlainTable, PlainTables};
-use crate::lookup::plain_named;
-use crate::operation::Op;
 use sea_cell::{ColKey, Duplicate, LinkEnd, NewEnd, Shared, TableNo};
+use sea_operation::{Op, Plain, PlainTable, PlainTables, plain_named};
 use sqlite_items::Items;
 use std::alloc::{AllocError, Global};
 

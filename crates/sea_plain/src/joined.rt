@@ -2,18 +2,15 @@
 ghost use Rattle.std.specs.Prelude.{◌≡◌, ◌&&◌, ◌==◌, ℕ, List, not, filter, IfOk};
 ghost use Rattle.std.specs.BTreeSet.{contains_text};
 ghost use Rattle.std.specs.List.{filter_map, list_any};
-ghost use Rattle.sea_cell.specs.Once.{is_among};
+ghost use Rattle.sea_text.specs.Distinct.{is_among};
 ghost use Rattle.sea_links.specs.Pairs.{is_of as is_of_row, side as side_of};
 ghost use Rattle.sea_schema.specs.Tables.{is_link_among as is_link_among_of};
-ghost use Rattle.sea_cell.specs.Named.{listed};
-ghost use Rattle.sea_plain.specs.Joined.{texts_of_ids, joined as joined_of, with_joined as with_joined_of, joins_none as joins_none_of, without_joined as without_joined_of, has_row_at as has_row_at_of, has_no_row as has_no_row_of, ends_of as ends_of_columns, is_of_others as is_of_others_of, pairs_after as pairs_after_of};
+ghost use Rattle.sea_text.specs.Named.{listed};
+ghost use Rattle.sea_operation.specs.Joined.{texts_of_ids, joined as joined_of, with_joined as with_joined_of, joins_none as joins_none_of, without_joined as without_joined_of, has_row_at as has_row_at_of, has_no_row as has_no_row_of, ends_of as ends_of_columns, is_of_others as is_of_others_of, pairs_after as pairs_after_of};
 
-use crate::base::PlainPairs;
-use crate::lookup::end_named;
-use crate::names::set_of;
-use crate::operation::Op;
 use sea_cell::{Column, Columns, Duplicate, LinkEnd, RowId, Shared, items_in};
 use sea_links::{LinkPair, is_of, side};
+use sea_operation::{Op, PlainPairs, end_named, set_of};
 use sea_schema::is_link_among;
 use sqlite_items::Items;
 use std::alloc::{AllocError, Global};

@@ -4,12 +4,12 @@ ghost use Rattle.std.specs.List.{list_any};
 ghost use Rattle.sea_links.specs.Pairs.{others_of as others_of_row};
 ghost use Rattle.sea_plain.specs.Linked.{links_cell as links_cell_of, with_linked as with_linked_of, with_links as with_links_of, row_shown as row_shown_of, table_shown as table_shown_of, tables_of as tables_of_base};
 
-use crate::base::{Plain, PlainTable};
 use sea_cell::{
     CellValue, Cells, Column, Columns, Duplicate, Ids, LinkEnd, Row, RowId, Rows, Shared, TableNo,
     Text,
 };
 use sea_links::{LinkPair, is_of, side};
+use sea_operation::{Plain, PlainTable};
 use sqlite_items::Items;
 use std::alloc::{AllocError, Global};
 

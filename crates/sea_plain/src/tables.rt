@@ -1,21 +1,18 @@
 // The tables of a base after an operation.
 ghost use Rattle.std.specs.Prelude.{◌≡◌, ◌≤◌, ◌⊎◌, ◌+◌, ◌++◌, None, filter, length, IfOk, []};
 ghost use Rattle.sea_schema.specs.Tables.{table_of, with_view as with_view_of};
-ghost use Rattle.sea_cell.specs.Named.{listed};
-ghost use Rattle.sea_plain.specs.Apply.{table_after as table_after_of, columns_named as columns_named_of, rows_after as rows_after_of, plain_after as plain_after_of, named_after as named_after_of, has_other_name as has_other_name_of, with_column_in, links_gone as links_gone_of, tables_after as tables_after_of};
-ghost use Rattle.sea_plain.specs.Refusal.{new_rows as new_rows_of, numbers_spent};
-ghost use Rattle.sea_plain.specs.Schemas.{bare_tables};
-ghost use Rattle.sea_plain.specs.Seen.{seen_of};
-ghost use Rattle.sea_plain.specs.Viewed.{view_of as view_for};
+ghost use Rattle.sea_text.specs.Named.{listed};
+ghost use Rattle.sea_operation.specs.Apply.{table_after as table_after_of, columns_named as columns_named_of, rows_after as rows_after_of, plain_after as plain_after_of, named_after as named_after_of, has_other_name as has_other_name_of, with_column_in, links_gone as links_gone_of, tables_after as tables_after_of};
+ghost use Rattle.sea_operation.specs.Refusal.{new_rows as new_rows_of, numbers_spent};
+ghost use Rattle.sea_operation.specs.Schemas.{bare_tables};
+ghost use Rattle.sea_operation.specs.Seen.{seen_of};
+ghost use Rattle.sea_operation.specs.Viewed.{view_of as view_for};
 
-use crate::base::{Plain, PlainTable, PlainTables};
 use crate::changed::{rows_after_changes, rows_without, rows_without_column};
-use crate::columns::columns_in;
 use crate::ends::{with_link, without_ends};
-use crate::makes::table_name;
-use crate::operation::{NewView, Op};
-use crate::viewed::view_of;
 use sea_cell::{ColKey, Columns, Duplicate, Moment, NewColumn, Rows, Shared, TableNo, Text};
+use sea_operation::{NewView, Op, Plain, PlainTable, PlainTables, table_name, view_of};
+use sea_refusal::columns_in;
 use sea_schema::Table;
 use sqlite_items::Items;
 use std::alloc::{AllocError, Global};

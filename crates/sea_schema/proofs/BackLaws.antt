@@ -7,10 +7,10 @@ use Rattle.std.specs.Str.{bytes_eq}
 use Rattle.std.specs.Cmp.Lexicographic.{nat_list_eq_equiv}
 use Rattle.std.proofs.lemmas.List.Elements.{filter-append}
 use Rattle.sea_cell.specs.declared.keys.ColKey.{ColKey}
-use Rattle.sea_cell.specs.declared.layout.Column.{Column}
-use Rattle.sea_cell.specs.declared.layout.NewEnd.{NewEnd}
-use Rattle.sea_cell.specs.declared.selection.Filter.{Filter}
-use Rattle.sea_cell.specs.declared.selection.View.{View}
+use Rattle.sea_cell.specs.declared.column.Column.{Column}
+use Rattle.sea_cell.specs.declared.column.NewEnd.{NewEnd}
+use Rattle.sea_cell.specs.declared.view.Filter.{Filter}
+use Rattle.sea_cell.specs.declared.view.View.{View}
 use Rattle.sea_schema.specs.declared.table.Table.{Table}
 use Rattle.sea_schema.specs.Tables.{table_named, column_named, key_named, without_filters, has_name, has_other_name, without_column, link_column, link_of, links_of, links_named, is_link_among, is_end_of, is_of_no_link, without_links}
 use Rattle.sea_schema.specs.Layout.{Layout, if_table, with_link, end_towards, links_of_column, without_column_of}

@@ -7,9 +7,9 @@ use Rattle.std.specs.Str.{bytes_eq}
 use Rattle.std.proofs.lemmas.Bool.Decides.{nat_tests}
 use Rattle.std.proofs.lemmas.List.Elements.{filter-append}
 use Rattle.std.proofs.lemmas.List.Folds.{list_any-append}
-use Rattle.sea_cell.specs.declared.layout.Column.{Column}
-use Rattle.sea_cell.specs.declared.layout.LinkEnd.{LinkEnd}
-use Rattle.sea_cell.specs.declared.layout.NewEnd.{NewEnd}
+use Rattle.sea_cell.specs.declared.column.Column.{Column}
+use Rattle.sea_cell.specs.declared.column.LinkEnd.{LinkEnd}
+use Rattle.sea_cell.specs.declared.column.NewEnd.{NewEnd}
 use Rattle.sea_schema.specs.declared.table.Table.{Table}
 use Rattle.sea_schema.specs.Tables.{link_column, is_link_among, is_end_of, is_of_no_link, without_links}
 use Rattle.sea_schema.specs.Layout.{Layout, if_table, with_link, end_towards}

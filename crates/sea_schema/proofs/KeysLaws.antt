@@ -1,6 +1,6 @@
 -- The new column in each place, with its key.
 use Rattle.std.proofs.Common.{◌≡◌, ℕ, zero, suc, ◌+◌, List, [], ◌∷◌, slice_get, Some, option_map, refl, ap, ◌∙◌, arith}
-use Rattle.sea_cell.specs.declared.layout.NewColumn.{NewColumn}
+use Rattle.sea_cell.specs.declared.column.NewColumn.{NewColumn}
 use Rattle.sea_schema.specs.Tables.{column_of, columns_of}
 
 pub column-at : (key : ℕ) (columns : List NewColumn) (at : ℕ) → slice_get (columns_of key columns) at ≡ option_map (column_of (key + at)) (slice_get columns at)

@@ -3,8 +3,8 @@ use Rattle.std.proofs.Common.{◌≡◌, ℕ, List, [], ◌∷◌, map, filter, 
 use Rattle.std.specs.Bool.{OnFalse}
 use Rattle.std.specs.List.{list_any}
 use Rattle.std.specs.Option.{option_map_or}
-use Rattle.sea_cell.specs.declared.layout.Column.{Column}
-use Rattle.sea_cell.specs.declared.layout.LinkEnd.{LinkEnd}
+use Rattle.sea_cell.specs.declared.column.Column.{Column}
+use Rattle.sea_cell.specs.declared.column.LinkEnd.{LinkEnd}
 use Rattle.sea_schema.specs.declared.table.Table.{Table}
 use Rattle.sea_schema.specs.Tables.{is_link_among, is_end_of, without_links}
 

@@ -3,7 +3,7 @@ use Rattle.std.specs.Prelude.{ℕ, ◌&&◌, ◌==◌, List, filter, length, Boo
 use Rattle.std.specs.List.{list_any, flat_map}
 use Rattle.std.specs.Option.{option_map_or}
 use Rattle.std.specs.Str.{bytes_eq}
-use Rattle.sea_cell.specs.declared.layout.Column.{Column}
+use Rattle.sea_cell.specs.declared.column.Column.{Column}
 use Rattle.sea_schema.specs.declared.table.Table.{Table}
 use Rattle.sea_schema.specs.Tables.{has_name, is_end_of}
 

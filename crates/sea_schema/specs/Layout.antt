@@ -2,9 +2,9 @@
 use Rattle.std.specs.Prelude.{ℕ, ◌+◌, List, [], ◌∷◌, ◌++◌, map, filter, length, Bool, true, false, not, if◌then◌else◌, Option, Some, None}
 use Rattle.std.specs.Option.{option_map_or}
 use Rattle.std.specs.Str.{bytes_eq}
-use Rattle.sea_cell.specs.declared.layout.LinkEnd.{LinkEnd}
-use Rattle.sea_cell.specs.declared.layout.NewColumn.{NewColumn}
-use Rattle.sea_cell.specs.declared.layout.NewEnd.{NewEnd}
+use Rattle.sea_cell.specs.declared.column.LinkEnd.{LinkEnd}
+use Rattle.sea_cell.specs.declared.column.NewColumn.{NewColumn}
+use Rattle.sea_cell.specs.declared.column.NewEnd.{NewEnd}
 use Rattle.sea_schema.specs.declared.table.Table.{Table}
 use Rattle.sea_schema.specs.Tables.{table_named, table_of, with_column, without_column, with_link_column, links_of, links_named, without_links}
 

@@ -3,14 +3,14 @@ use Rattle.std.specs.Prelude.{ℕ, ◌+◌, ◌==◌, List, [], ◌∷◌, ◌++
 use Rattle.std.specs.List.{find, list_any, filter_map}
 use Rattle.std.specs.Option.{option_map_or}
 use Rattle.std.specs.Str.{bytes_eq}
-use Rattle.sea_cell.specs.Once.{once}
+use Rattle.sea_text.specs.Distinct.{once}
 use Rattle.sea_cell.specs.declared.keys.ColKey.{ColKey}
-use Rattle.sea_cell.specs.declared.layout.ColKind.TheVariants.{Link}
-use Rattle.sea_cell.specs.declared.layout.Column.{Column}
-use Rattle.sea_cell.specs.declared.layout.LinkEnd.{LinkEnd}
-use Rattle.sea_cell.specs.declared.layout.NewColumn.{NewColumn}
-use Rattle.sea_cell.specs.declared.selection.Filter.{Filter}
-use Rattle.sea_cell.specs.declared.selection.View.{View}
+use Rattle.sea_cell.specs.declared.column.ColKind.TheVariants.{Link}
+use Rattle.sea_cell.specs.declared.column.Column.{Column}
+use Rattle.sea_cell.specs.declared.column.LinkEnd.{LinkEnd}
+use Rattle.sea_cell.specs.declared.column.NewColumn.{NewColumn}
+use Rattle.sea_cell.specs.declared.view.Filter.{Filter}
+use Rattle.sea_cell.specs.declared.view.View.{View}
 use Rattle.sea_schema.specs.declared.table.Table.{Table}
 
 -- ---- found by name

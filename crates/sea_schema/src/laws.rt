@@ -1,8 +1,8 @@
 // What holds of keys, and of links and their changes.
 ghost use Rattle.std.specs.Prelude.{◌≡◌, ◌+◌, ℕ, ◌∷◌, [], List, true, false, option_map, slice_get};
 ghost use Rattle.std.specs.List.{list_any};
-ghost use Rattle.sea_cell.specs.declared.layout.NewColumn.{NewColumn};
-ghost use Rattle.sea_cell.specs.declared.layout.NewEnd.{NewEnd};
+ghost use Rattle.sea_cell.specs.declared.column.NewColumn.{NewColumn};
+ghost use Rattle.sea_cell.specs.declared.column.NewEnd.{NewEnd};
 ghost use Rattle.sea_schema.specs.Layout.{Layout, with_link, links_of_column, links_of_table, without_column_of, without_table_of};
 ghost use Rattle.sea_schema.specs.Tables.{column_of, columns_of};
 ghost use Rattle.sea_schema.specs.Ends.{is_named, count_named, have_ends, count_ends, have_column, have_filters};

@@ -2,7 +2,7 @@
 ghost use Rattle.std.specs.Prelude.{◌≡◌, ◌+◌, ◌<◌, ◌^◌, ◌++◌, ◌∷◌, [], map, filter, length, IfOk};
 ghost use Rattle.std.specs.Option.{option_copied};
 ghost use Rattle.std.specs.List.{list_any};
-ghost use Rattle.sea_cell.specs.Once.{once};
+ghost use Rattle.sea_text.specs.Distinct.{once};
 ghost use Rattle.sea_schema.specs.Tables.{column_named as column_named_of, key_named, view_named, column_of as column_for, columns_of as columns_for, table_of, with_name, with_column, if_named, column_with_name, with_column_name, column_with_options, with_options, is_view as is_view_of, if_view, put_view, with_view, is_other_view as is_other_view_of, without_view, has_other_name as has_other_name_of, is_of_other as is_of_other_of, without_filters, without_column};
 
 use sea_cell::{

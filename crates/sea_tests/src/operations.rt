@@ -3,10 +3,9 @@
 ghost use Rattle.std.specs.Prelude.{◌≡◌};
 
 use sea_cell::{ColKind, Moment, NewColumn, NewEnd, RowId, TableNo, Text, Texts};
+use sea_operation::{Counter, Counters, Entries, Entry, OpRefusal, Plain, plain_named};
 use sea_ops::{OpFault, RowsSeen, check, op_of_json, op_text};
-use sea_plain::{
-    Counter, Counters, Entries, Entry, OpRefusal, Plain, apply_plain, plain_named, run_plain,
-};
+use sea_plain::{apply_plain, run_plain};
 use sea_schema::Schema;
 use std::alloc::{AllocError, Global};
 use std::process::Abort;

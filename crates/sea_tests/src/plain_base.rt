@@ -1,7 +1,8 @@
 // The plain base of the entries of a base that is kept: the slow plain body beside what the cases play.
 use sea_cell::{Moment, Text, cell_in, json_of_cell};
+use sea_operation::{Entries, Entry, Plain, PlainTable, plain_named};
 use sea_ops::op_of_json;
-use sea_plain::{Entries, Entry, Plain, PlainTable, plain_named, run_plain};
+use sea_plain::run_plain;
 use serde_json::Value;
 use std::alloc::{AllocError, Global};
 use std::test::Fail;

@@ -1,5 +1,5 @@
 use Rattle.std.proofs.Common.{◌≡◌, ◌+◌, [], ◌∷◌, ◌++◌, take, refl, sym, ap, ◌∙◌, arith}
-use Rattle.sea_plain.specs.declared.operation.Entry.{Entry}
+use Rattle.sea_operation.specs.declared.operation.Entry.{Entry}
 use Rattle.sea_core.specs.Feeding.{numbered as numbered_of}
 use Rattle.sea_core.proofs.Numbering.{numbered_next}
 use Rattle.sea_core.proofs.feeding.numbered.Goals as goal

@@ -1,5 +1,5 @@
 use Rattle.std.proofs.lemmas.Result.{err_from_is_err_and}
-use Rattle.sea_ops.specs.Record.{IsRecord}
+use Rattle.sea_record.specs.Record.{IsRecord}
 use Rattle.sea_core.specs.Taking.{TakesRecord}
 use Rattle.sea_core.proofs.Making.{takes_record, another_number, refused_record, one_next}
 use Rattle.sea_core.proofs.replaying.with_record.Goals as goal

@@ -1,8 +1,9 @@
 use Rattle.std.proofs.Common.{sym, subst, ◌∙◌, inl, inr}
-use Rattle.sea_drive.specs.Dump.{dump_lines, SaysOfLines}
-use Rattle.sea_drive.specs.declared.ending.Status.{Status}
+use Rattle.std.proofs.KnownBytes.{Appends-nil}
+use Rattle.sea_dump.specs.Dump.{dump_lines}
+use Rattle.sea_drive.specs.Dumps.{SaysOfLines}
+use Rattle.sea_drive.specs.declared.status.Status.{Status}
 use Rattle.sea_drive.proofs.DumpLaws.{says_of_lines, not_a_base}
-use Rattle.sea_drive.proofs.PlayLaws.{gives_none}
 use Rattle.sea_drive.proofs.dumping.dump.Goals as goal
 
 pub returns-in-Ok-clause-ends : goal.returns-in-Ok-clause-ends
@@ -35,7 +36,7 @@ returns-in-Err-clause-ends g c = inr (record {
     no_base = λ told. c.in-Err.ensures.no_base told;
     any_moment = λ told. c.in-Err.ensures.any_moment_refused told;
   };
-  nothing = gives_none (g.K.Sink.taken c.args.sink.now);
+  nothing = Appends-nil (g.K.Sink.taken c.args.sink.now);
 })
 
 pub returns-in-Err-clause-no_base : goal.returns-in-Err-clause-no_base

@@ -1,5 +1,5 @@
 use Rattle.std.proofs.Common.{refl, sym, arith}
-use Rattle.sea_drive.specs.Reader.{place_of, unread}
+use Rattle.sea_lines.specs.Reader.{place_of, unread, takes_within}
 use Rattle.sea_drive.proofs.PlayLaws.{nothing_unread, total_first}
 use Rattle.sea_drive.proofs.TurnLaws.{goes_first, ends_first, ends_unstarted, ends_as, no_base_at_first}
 use Rattle.sea_drive.proofs.player.play.Goals as goal
@@ -60,3 +60,7 @@ returns-in-End-clause-no_base g c = λ told is.
     let ended = rw c.in-End.is at c.turns.invariant.turns in
     let ends = ends_as clock g.D.Disk.told g.D.Disk.shows c.args.limits c.args.disk _ _ c.in-End.disk c.in-End.disk left (g.S.Source.left c.turns.source) taken (g.K.Sink.taken c.turns.sink) is refl ended in
     no_base_at_first clock g.D.Disk.told g.D.Disk.shows g.met.D.Disk.sound c.args.limits c.args.disk c.in-End.disk left (g.S.Source.left c.turns.source) taken (g.K.Sink.taken c.turns.sink) ends told
+
+-- the reader has counted what it took
+pub returns-in-End-clause-within : goal.returns-in-End-clause-within
+returns-in-End-clause-within g c = takes_within c.turns.reader (g.S.Source.left c.args.source.now) (g.S.Source.left c.turns.source) c.turns.invariant.total

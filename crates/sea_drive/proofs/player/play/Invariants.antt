@@ -1,7 +1,7 @@
 use Rattle.std.proofs.Common.{◌≡◌}
-use Rattle.sea_drive.specs.Lines.{KeepsTotal}
+use Rattle.sea_lines.specs.Lines.{KeepsTotal}
 use Rattle.sea_faults.specs.Counts.{IsCaused}
-use Rattle.sea_drive.specs.Reader.{place_of}
+use Rattle.sea_lines.specs.Reader.{bytes_read, place_of}
 use Rattle.sea_drive.specs.Turns.{Turns, CountsTurn, has_source_fault, has_sink_fault, turns_left}
 use Rattle.sea_drive.proofs.player.play.Given as goal
 
@@ -17,4 +17,4 @@ invariant-turns g l = record {
 }
 
 abbrev pub decreases-turns : goal.decreases-turns
-decreases-turns g l = turns_left l.reader.read l.next
+decreases-turns g l = turns_left (bytes_read l.reader) l.next

@@ -1,6 +1,6 @@
 use Rattle.std.proofs.Common.{◌≤◌, length, Err, ap, sym, arith}
-use Rattle.sea_drive.specs.Lines.{line_limit}
-use Rattle.sea_drive.specs.Reader.{place_of, unread}
+use Rattle.sea_lines.specs.Lines.{line_limit}
+use Rattle.sea_lines.specs.Reader.{place_of, unread}
 use Rattle.sea_drive.proofs.PlayLaws.{at_end_of}
 use Rattle.sea_drive.proofs.TurnLaws.{turn_plays, turn_ends, turn_fails, ends_as}
 use Rattle.sea_drive.proofs.player.turn.Goals as goal

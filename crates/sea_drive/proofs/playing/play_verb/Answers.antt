@@ -1,6 +1,6 @@
 use Rattle.std.proofs.Common.{sym, subst}
 use Rattle.sea_drive.specs.Steps.{VerbStep}
-use Rattle.sea_drive.specs.declared.asked.Verb.{Verb}
+use Rattle.sea_drive.specs.declared.verb.Verb.{Verb}
 use Rattle.sea_drive.proofs.playing.play_verb.Goals as goal
 
 pub returns-in-Reopen-clause-step : goal.returns-in-Reopen-clause-step

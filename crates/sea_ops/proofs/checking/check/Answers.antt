@@ -1,6 +1,6 @@
 use Rattle.std.proofs.Common.{subst}
-use Rattle.sea_plain.specs.Checks.{Checks}
-use Rattle.sea_plain.specs.Refusal.{seen_refusal}
+use Rattle.sea_operation.specs.Checks.{Checks}
+use Rattle.sea_operation.specs.Refusal.{seen_refusal}
 use Rattle.sea_ops.proofs.Besides.{same_seen}
 use Rattle.sea_ops.proofs.checking.check.Goals as goal
 

@@ -1,4 +1,4 @@
-use Rattle.sea_plain.specs.Seen.{seen_of}
+use Rattle.sea_operation.specs.Seen.{seen_of}
 use Rattle.sea_plain.proofs.Numbers.{unspent}
 use Rattle.sea_plain.proofs.apply.apply_plain.Goals as goal
 

@@ -1,5 +1,5 @@
 use Rattle.std.proofs.Common.{◌≡◌, drop}
-use Rattle.sea_plain.specs.Apply.{after, after_from}
+use Rattle.sea_operation.specs.Apply.{after, after_from}
 use Rattle.sea_plain.proofs.apply.run_plain.Given as goal
 
 -- what the entries that are left make of the base so far is what all make of the first

@@ -1,6 +1,6 @@
 use Rattle.std.proofs.Common.{◌≡◌, map, take}
-use Rattle.sea_cell.specs.Named.{listed}
-use Rattle.sea_plain.specs.RowsOf.{after_changes}
+use Rattle.sea_text.specs.Named.{listed}
+use Rattle.sea_operation.specs.RowsOf.{after_changes}
 use Rattle.sea_plain.proofs.changed.rows_after_changes.Given as goal
 
 abbrev pub invariant-loop-row : goal.invariant-loop-row

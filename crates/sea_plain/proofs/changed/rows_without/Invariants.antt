@@ -1,5 +1,5 @@
 use Rattle.std.proofs.Common.{◌≡◌, ◌++◌, map, drop, filter}
-use Rattle.sea_plain.specs.RowsOf.{has_other_id}
+use Rattle.sea_operation.specs.RowsOf.{has_other_id}
 use Rattle.sea_plain.proofs.changed.rows_without.Given as goal
 
 -- what is kept so far and of what is left is kept of all

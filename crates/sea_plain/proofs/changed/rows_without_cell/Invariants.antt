@@ -1,5 +1,5 @@
 use Rattle.std.proofs.Common.{◌≡◌, map, take}
-use Rattle.sea_plain.specs.RowsOf.{without_cell}
+use Rattle.sea_operation.specs.RowsOf.{without_cell}
 use Rattle.sea_plain.proofs.changed.rows_without_cell.Given as goal
 
 abbrev pub invariant-loop-row : goal.invariant-loop-row

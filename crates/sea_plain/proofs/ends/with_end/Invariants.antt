@@ -1,6 +1,6 @@
 use Rattle.std.proofs.Common.{◌≡◌, map, take}
 use Rattle.sea_schema.specs.Tables.{with_link_column}
-use Rattle.sea_plain.specs.Apply.{in_plain}
+use Rattle.sea_operation.specs.Apply.{in_plain}
 use Rattle.sea_plain.proofs.ends.with_end.Given as goal
 
 abbrev pub invariant-loop-plain : goal.invariant-loop-plain

@@ -1,5 +1,5 @@
 use Rattle.std.proofs.Common.{◌≡◌, map, take}
-use Rattle.sea_plain.specs.Apply.{without_ends_in}
+use Rattle.sea_operation.specs.Apply.{without_ends_in}
 use Rattle.sea_plain.proofs.ends.without_ends.Given as goal
 
 abbrev pub invariant-loop-plain : goal.invariant-loop-plain

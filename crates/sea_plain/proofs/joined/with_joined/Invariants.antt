@@ -1,5 +1,5 @@
 use Rattle.std.proofs.Common.{◌≡◌, ◌++◌, map, take}
-use Rattle.sea_plain.specs.Joined.{joined}
+use Rattle.sea_operation.specs.Joined.{joined}
 use Rattle.sea_plain.proofs.joined.with_joined.Given as goal
 
 abbrev pub invariant-loop-other : goal.invariant-loop-other

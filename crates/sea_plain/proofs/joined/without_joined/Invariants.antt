@@ -1,5 +1,5 @@
 use Rattle.std.proofs.Common.{◌≡◌, ◌++◌, drop, filter}
-use Rattle.sea_plain.specs.Joined.{joins_none, texts_of_ids}
+use Rattle.sea_operation.specs.Joined.{joins_none, texts_of_ids}
 use Rattle.sea_plain.proofs.joined.without_joined.Given as goal
 
 -- what is kept so far and of what is left is kept of all

@@ -1,5 +1,5 @@
 use Rattle.std.proofs.Common.{◌≡◌, ◌++◌, drop, filter}
-use Rattle.sea_plain.specs.Joined.{is_of_others}
+use Rattle.sea_operation.specs.Joined.{is_of_others}
 use Rattle.sea_plain.proofs.joined.without_links.Given as goal
 
 -- what is kept so far and of what is left is kept of all

@@ -1,5 +1,5 @@
 use Rattle.std.proofs.Common.{◌≡◌, map, take}
-use Rattle.sea_plain.specs.Apply.{plain_after}
+use Rattle.sea_operation.specs.Apply.{plain_after}
 use Rattle.sea_plain.proofs.tables.named_after.Given as goal
 
 abbrev pub invariant-loop-plain : goal.invariant-loop-plain

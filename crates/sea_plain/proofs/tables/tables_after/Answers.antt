@@ -1,4 +1,4 @@
-use Rattle.sea_plain.specs.Seen.{seen_of}
+use Rattle.sea_operation.specs.Seen.{seen_of}
 use Rattle.sea_plain.proofs.Numbers.{has_room}
 use Rattle.sea_plain.proofs.tables.tables_after.Goals as goal
 

@@ -1,5 +1,5 @@
 use Rattle.std.proofs.Common.{◌≡◌, ◌++◌, drop, filter}
-use Rattle.sea_plain.specs.Apply.{has_other_name}
+use Rattle.sea_operation.specs.Apply.{has_other_name}
 use Rattle.sea_plain.proofs.tables.tables_without.Given as goal
 
 -- what is kept so far and of what is left is kept of all

@@ -1,7 +1,7 @@
 use Rattle.std.proofs.Common.{ℕ, List, Option, sym, ap, ◌∙◌}
 use Rattle.std.proofs.lemmas.Result.{IfOk-weaker}
-use Rattle.sea_cell.specs.declared.layout.NewEnd.{NewEnd}
-use Rattle.sea_plain.specs.Apply.{with_link_in, with_column_in}
+use Rattle.sea_cell.specs.declared.column.NewEnd.{NewEnd}
+use Rattle.sea_operation.specs.Apply.{with_link_in, with_column_in}
 use Rattle.sea_plain.proofs.tables.with_column.Goals as goal
 
 pub returns-in-Some : goal.returns-in-Some

@@ -1,9 +1,9 @@
 use Rattle.std.proofs.Common.{◌≡◌, ◌+◌, [], ◌∷◌, ◌++◌, Ok, ap, ◌∙◌}
 use Rattle.std.proofs.lemmas.Result.{err_from_is_err_and}
 use Rattle.sea_disk.specs.Composition.{leaves_weaker}
-use Rattle.sea_plain.specs.Apply.{apply}
-use Rattle.sea_plain.specs.declared.operation.Entry.{Entry}
-use Rattle.sea_ops.specs.Record.{record_of, IsRecord}
+use Rattle.sea_operation.specs.Apply.{apply}
+use Rattle.sea_operation.specs.declared.operation.Entry.{Entry}
+use Rattle.sea_record.specs.Record.{record_of, IsRecord}
 use Rattle.sea_core.specs.Taking.{TakesRecord, IsRecordOf}
 use Rattle.sea_core.proofs.Making.{version_rises}
 use Rattle.sea_core.proofs.Editing.{edit_untouched, edited_too_large, edited_kept, taken_back, with_history, same_history, edited_back, next_record, with_or_without}

@@ -1,7 +1,7 @@
 use Rattle.std.proofs.Common.{sym, subst, inl, rules, arith}
 use Rattle.sea_drive.specs.Outcome.{is_disk_fault}
 use Rattle.sea_drive.specs.Play.{CountsDisk}
-use Rattle.sea_drive.specs.declared.ending.Status.{Status}
+use Rattle.sea_drive.specs.declared.status.Status.{Status}
 use Rattle.sea_drive.proofs.Counts.{never_falls, counted_on, later_on, refused_counts, refused_later, cut_counts}
 use Rattle.sea_drive.proofs.turn.Player.play.Goals as goal
 

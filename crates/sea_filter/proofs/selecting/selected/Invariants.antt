@@ -1,7 +1,0 @@
-use Rattle.std.proofs.Common.{◌≡◌, ◌++◌, drop}
-use Rattle.sea_filter.specs.Selected.{selected}
-use Rattle.sea_filter.proofs.selecting.selected.Given as goal
-
--- what is selected so far and of what is left is selected of all
-abbrev pub invariant-loop-row : goal.invariant-loop-row
-invariant-loop-row l = l.ids ++ selected l.view l.columns (drop l.row-index l.row-items) ≡ selected l.view l.columns l.row-items

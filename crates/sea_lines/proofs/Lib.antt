@@ -1,0 +1,4 @@
+pub mod LinesOf
+pub mod LinesBuffer
+pub mod LinesSteps
+pub mod LinesLaws

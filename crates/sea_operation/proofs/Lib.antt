@@ -1,0 +1,5 @@
+pub mod Alike
+pub mod Firsts
+pub mod Found
+pub mod Numbered
+pub mod There

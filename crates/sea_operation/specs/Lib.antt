@@ -1,0 +1,12 @@
+pub mod Apply
+pub mod Base
+pub mod Checks
+pub mod Firsts
+pub mod Joined
+pub mod Makes
+pub mod Names
+pub mod Refusal
+pub mod RowsOf
+pub mod Schemas
+pub mod Seen
+pub mod Viewed

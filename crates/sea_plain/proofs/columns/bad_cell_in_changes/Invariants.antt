@@ -1,7 +1,0 @@
-use Rattle.std.proofs.Common.{◌≡◌, drop, map}
-use Rattle.sea_cell.specs.Named.{listed}
-use Rattle.sea_plain.specs.Refusal.{first_at, refused_cell}
-use Rattle.sea_plain.proofs.columns.bad_cell_in_changes.Given as goal
-
-abbrev pub invariant-loop-change : goal.invariant-loop-change
-invariant-loop-change l = first_at (λ cells. first_at (refused_cell (listed l.columns)) cells) (map (λ change. change.cells) (drop l.change-index l.changes)) ≡ first_at (λ cells. first_at (refused_cell (listed l.columns)) cells) (map (λ change. change.cells) l.changes)

@@ -1,8 +1,0 @@
-use Rattle.sea_plain.proofs.Firsts.{first_repeats, none_repeats}
-use Rattle.sea_plain.proofs.laws.a_repeat_is_the_first.Goals as goal
-
-pub returns-clause-told : goal.returns-clause-told
-returns-clause-told c = first_repeats
-
-pub returns-clause-none : goal.returns-clause-none
-returns-clause-none c = none_repeats

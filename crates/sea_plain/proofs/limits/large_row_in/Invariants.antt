@@ -1,6 +1,0 @@
-use Rattle.std.proofs.Common.{◌≡◌, drop}
-use Rattle.sea_plain.specs.Refusal.{first_at, large_row}
-use Rattle.sea_plain.proofs.limits.large_row_in.Given as goal
-
-abbrev pub invariant-loop-row : goal.invariant-loop-row
-invariant-loop-row l = first_at large_row (drop l.row-index l.rows) ≡ first_at large_row l.rows

@@ -1,0 +1,165 @@
+// Lists whose items are found by name.
+ghost use Rattle.std.specs.Prelude.{◌≡◌, ℕ, List, [], Some, if◌then◌else◌, slice_get, IfOk, OnOk};
+ghost use Rattle.std.specs.Option.{option_copied};
+ghost use Rattle.std.specs.Str.{bytes_eq};
+ghost use Rattle.std.specs.BTreeMap.{get_by_text};
+ghost use Rattle.sea_text.specs.Named.{item_named, listed, IsPlaces};
+
+use crate::duplicate::{Duplicate, copies_of};
+use sqlite_items::Items;
+use std::alloc::{AllocError, Global};
+use std::collections::BTreeMap;
+use std::marker::Model;
+
+/// A thing with a name or an id that its like know it by.
+pub trait Named {
+    /// The name or id.
+    ghost name: { Self → List ℕ };
+
+    /// The name or id.
+    fn name(&self) -> &str
+        ensures { result.now ≡ name self.now };
+}
+
+// Where the first thing of each name stands in a list.
+type Places = BTreeMap<String, usize>;
+
+/// Things in order, seen by contracts as their list. The first one of a name is found through an index.
+#[derive(Drop)]
+pub struct Indexed<T: Named> {
+    items: Items<T>,
+    places: Places,
+}
+
+impl<T: Named> Model for Indexed<T> {
+    ghost use Rattle.std.specs.Prelude.{List};
+    ghost use Rattle.std.specs.Coded.{coded_list};
+    ghost use Rattle.std.specs.BTreeMap.{get_by_text};
+    ghost use Rattle.sea_text.specs.Named.{IsPlaces};
+
+    ghost Value = { List T };
+
+    ghost coded = { coded_list T.code };
+
+    ghost view = { λ it. it.items };
+
+    ghost invariant = { λ it. IsPlaces T.name (get_by_text it.places) it.items };
+}
+
+impl<T: Named + Drop> Indexed<T> {
+    /// No things.
+    pub fn new(alloc: Global) -> Indexed<T>
+        ensures { result ≡ [] }
+    {
+        Indexed {
+            items: Items::new(alloc),
+            places: BTreeMap::new(alloc),
+        }
+    }
+
+    /// These things, in their order.
+    pub fn of(alloc: Global, items: Items<T>) -> Result<Indexed<T>, AllocError>
+        ensures { IfOk result (λ it. it ≡ items) }
+    {
+        let places = places_of(alloc, items.as_slice())?;
+        Ok(Indexed { items, places })
+    }
+
+    /// The things in order.
+    pub fn as_slice(&self) -> &[T]
+        ensures { result.now ≡ self.now }
+    {
+        self.items.as_slice()
+    }
+
+    /// The first thing of a name, where there is one. It takes no memory.
+    pub fn named(&self, name: &str) -> Option<&T>
+        ensures { option_copied result ≡ item_named T.name self.now name.now }
+    {
+        found(self.items.as_slice(), &self.places, name)
+    }
+}
+
+impl<T: Named + Duplicate + Drop> Indexed<T> {
+    /// Copies of the things, as a list that can grow.
+    pub fn copies(&self, alloc: Global) -> Result<Items<T>, AllocError>
+        ensures { IfOk result (λ copies. copies ≡ self.now) }
+    {
+        Ok(Items::from_vec(copies_of(alloc, self.as_slice())?))
+    }
+}
+
+impl<T: Named + Duplicate + Drop> Duplicate for Indexed<T> {
+    fn duplicate(&self, alloc: Global) -> Result<Indexed<T>, AllocError> {
+        Indexed::of(alloc, self.copies(alloc)?)
+    }
+}
+
+/// The first thing of a name in a list that may not be there. It takes no memory.
+pub fn named_in<'a, T: Named + Drop>(list: Option<&'a Indexed<T>>, name: &str) -> Option<&'a T>
+    ensures { option_copied result ≡ item_named T.name (listed list.entry) name.now }
+{
+    match list {
+        Some(list) => list.named(name),
+        None => None,
+    }
+}
+
+/// The things of a list that may not be there, in order.
+pub fn items_in<'a, T: Named + Drop>(list: Option<&'a Indexed<T>>) -> &'a [T]
+    ensures { result.now ≡ listed list.entry }
+{
+    match list {
+        Some(list) => list.as_slice(),
+        None => &[],
+    }
+}
+
+// The places of some things. It goes from the last one to the first, so that the first one of a name stays.
+fn places_of<T: Named>(alloc: Global, items: &[T]) -> Result<Places, AllocError>
+    ensures { IfOk result (λ places. IsPlaces T.name (get_by_text places) items.now) }
+{
+    let mut places = BTreeMap::new(alloc);
+    let mut at = items.len();
+    while at > 0 {
+        at -= 1;
+        put_place(alloc, &mut places, items[at].name(), at)?;
+    }
+    Ok(places)
+}
+
+// Puts the place of a name, over the one that it has.
+fn put_place(alloc: Global, places: &mut Places, name: &str, at: usize) -> Result<(), AllocError>
+    ensures { OnOk result ((other : List ℕ) → get_by_text places.new other ≡ (if bytes_eq name.now other then Some at else get_by_text places.old other)) }
+{
+    places.insert(String::from_str(alloc, name)?, at)?;
+    Ok(())
+}
+
+// The first thing of a name, by the places.
+fn found<'a, T: Named>(items: &'a [T], places: &Places, name: &str) -> Option<&'a T>
+    requires { IsPlaces T.name (get_by_text places.now) items.now }
+    ensures { option_copied result ≡ item_named T.name items.now name.now }
+{
+    match place(places, name) {
+        Some(at) => item_at(items, at),
+        None => None,
+    }
+}
+
+// The place of a name.
+fn place(places: &Places, name: &str) -> Option<usize>
+    ensures { result ≡ get_by_text places.now name.now }
+{
+    match places.get(name) {
+        Some(at) => Some(*at),
+        None => None,
+    }
+}
+
+// The thing at a place.
+fn item_at<T>(items: &[T], at: usize) -> Option<&T>
+    ensures { option_copied result ≡ slice_get items.now at }
+{
+    items.get(at)
+}
