@@ -58,7 +58,8 @@ class Playing:
 
 @contextlib.contextmanager
 def new_folder(parent):
-    """A new folder below `parent`, which is removed at the end."""
+    """A new folder below `parent`, which is made where it is absent. The new one is removed at the end."""
+    os.makedirs(parent, exist_ok=True)
     folder = tempfile.mkdtemp(dir=parent)
     try:
         yield folder
