@@ -1,13 +1,13 @@
 // A case: its title and its runs.
 use crate::checking::{bad_run, is_swept, swept_badly};
-use crate::faults::{failing, sound};
+use crate::faults::{failing, fails, sound};
 use crate::files::filled;
 use crate::lines::{first, is_nothing, number};
 use crate::run::{Ended, carried};
 use crate::script::Script;
 use crate::version::last_version;
 use crate::{sweep, verdict};
-use sea_disk::{Fuse, MemDisk};
+use sea_disk::{Disk, Fuse, MemDisk};
 use std::alloc::{AllocError, Global};
 
 // What comes of a run.
@@ -62,12 +62,25 @@ fn bad_case(case: &str) -> Option<&str> {
     if title(case).is_empty() {
         return Some("it has no title");
     }
+    if is_empty(below(case)) {
+        return Some("it has no line");
+    }
     if is_swept(case) {
         if let Some(what) = swept_badly(below(case)) {
             return Some(what);
         }
     }
     bad_part(case)
+}
+
+// No line says anything.
+fn is_empty(lines: &str) -> bool {
+    for line in lines.split('\n') {
+        if !is_nothing(line) {
+            return false;
+        }
+    }
+    true
 }
 
 // What is bad in a run, or in the line that leads to it.
@@ -126,8 +139,13 @@ fn left(way: &str, disk: MemDisk) -> Result<MemDisk, AllocError> {
 // Plays a run.
 fn one_turn(alloc: Global, run: &str, disk: MemDisk, version: u64) -> Result<Turn, AllocError> {
     let disk = failing(alloc, run, filled(alloc, run, disk)?)?;
+    let faults = disk.faults();
     let script = Script::of(alloc, run, version)?;
     let (ended, disk) = stopped(alloc, run, script.lines.as_slice(), disk)?;
+    if fails(run) && ended.faults <= faults {
+        let what = format!(in alloc; "no call of the disk has failed")?;
+        return Ok(Turn::End(what));
+    }
     let disk = sound(alloc, disk);
     match verdict::differs(alloc, run, script.wanted.as_slice(), &ended, &disk)? {
         Some(what) => Ok(Turn::End(what)),

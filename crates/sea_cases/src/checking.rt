@@ -10,7 +10,7 @@ use sea_moment::is_moment;
 const SWEEPS: &str = "@faults @stops @starts";
 
 // What a run may have once.
-const ONCE: &str = "@ends @stop @words @limit @minutes @pieces";
+const ONCE: &str = "@ends @stop @words @limit @minutes @pieces @reopened";
 
 // What a run that is swept has none of.
 const NOT_SWEPT: &str =
@@ -63,6 +63,9 @@ pub fn is_swept(case: &str) -> bool {
 
 /// The first line that no run has that is swept.
 pub fn swept_badly(run: &str) -> Option<&str> {
+    if has(run, "@starts") && has(run, "@ends") {
+        return Some("@ends beside @starts");
+    }
     for line in run.split('\n') {
         if !may_be_swept(line) {
             return Some(line);
@@ -94,7 +97,7 @@ fn is_among(name: &str, names: &str) -> bool {
 // A line is one of the language.
 fn is_line(line: &str) -> bool {
     if !line.starts_with('@') {
-        return line != "case";
+        return line != "case" && !line.ends_with(" -> ");
     }
     let (name, rest) = cut(line);
     is_of_script(name, rest) || is_of_run(name, rest) || is_of_disk(name, rest)
@@ -103,9 +106,10 @@ fn is_line(line: &str) -> bool {
 // A directive of what is played and wanted.
 fn is_of_script(name: &str, rest: &str) -> bool {
     match name {
-        "@text" | "@want" | "@words" => true,
+        "@text" | "@words" => true,
+        "@want" => !rest.is_empty(),
         "@reopened" => rest.is_empty(),
-        "@repeat" | "@wants" => number(cut(rest).0).is_some() && rest.contains(' '),
+        "@repeat" | "@wants" => at_least(cut(rest).0, 1) && !cut(rest).1.is_empty(),
         "@ends" => status_named(rest).is_some(),
         _ => false,
     }

@@ -1,5 +1,5 @@
 // Which calls of the disk fail in a run.
-use crate::lines::{behind, number};
+use crate::lines::{behind, has, number};
 use crate::run::carried;
 use crate::script::Script;
 use sea_disk::MemDisk;
@@ -22,6 +22,11 @@ pub fn sound(alloc: Global, disk: MemDisk) -> MemDisk {
     let mut disk = disk;
     disk.plan.fails = Items::new(alloc);
     disk
+}
+
+/// A call of the disk is to fail in a run.
+pub fn fails(run: &str) -> bool {
+    has(run, "@call_fails") || has(run, "@fails_here") || has(run, "@stop")
 }
 
 // The numbers of the calls that fail, of which the run's first is number 1.

@@ -33,11 +33,18 @@
 //!     @stops N                the script alone with a stop before each call, after 0 to N - 1 of them
 //!     @starts A..B N          stops after A to B - 1 calls, then starts that are stopped after 0 to N - 1 calls
 //!
-//! Files are named base0, base1, log0, log1 and arch. The last three are sweeps: a run on a blank disk for each number,
-//! whose replies aren't compared, so a case with one wants no replies and has no second run. After each run of the first
-//! two, all three things that a stop may leave have the last acknowledged version or the next one, and the last run ends
-//! with the case's status. After each stopped start of the third, a start finds the version that a start finds without
-//! it. A line that is none of these, or that stands twice where that says nothing, is told and never passed over.
+//! Files are named base0, base1, log0, log1 and arch; statuses Done, Usage, SourceFault, SinkFault, DiskFault, Memory,
+//! NotABase and TooLong. A stop leaves by choice 0 what was safe, by 1 all that was written, and by 2 each file as long as
+//! it was, with 1 for each byte that wasn't safe. What is played and wanted, `@reopened` and `@fails_here` hold from their
+//! place on, and all other directives for their whole run, wherever they stand in it. `@call_fails`, `@fails_here` and
+//! `@stop` have to be met: a call of the disk has to fail in that run.
+//!
+//! The last three are sweeps: a run on a blank disk for each number, whose replies aren't compared, so a case with one wants
+//! no replies and has no second run; but where nothing fails no line may be refused. After each run of the first two, all
+//! three things that a stop may leave have the last acknowledged version or the next one, and the last run ends with the
+//! case's status. In the third each stop has to be met, and after each stopped start a start finds the version that a start
+//! finds without it. A line that is none of these, or that stands twice where that says nothing, is told and never passed
+//! over. Standard output has the lines of the cases in their order.
 #![tactic(auto)]
 
 mod bytes;

@@ -13,6 +13,8 @@ pub struct Ended {
     pub status: Status,
     /// What it has written.
     pub written: Vec<u8>,
+    /// How many calls of the disk have failed, those before the run included.
+    pub faults: u64,
 }
 
 impl Ended {
@@ -46,7 +48,7 @@ fn commanded<D: Disk>(alloc: Global, words: &[Word], outside: Outside, disk: D) 
     } = outside;
     let (mut source, mut sink, mut clock) = (source, sink, clock);
     let (status, disk) = run(alloc, words, &mut source, &mut sink, disk, &mut clock);
-    (end_of(status, sink), disk)
+    (end_of(status, sink, disk.faults()), disk)
 }
 
 // Plays a script.
@@ -59,10 +61,10 @@ fn played<D: Disk>(alloc: Global, outside: Outside, disk: D) -> (Ended, D) {
     } = outside;
     let (mut source, mut sink, mut clock) = (source, sink, clock);
     let (status, disk) = play(alloc, limits, &mut source, &mut sink, disk, &mut clock);
-    (end_of(status, sink), disk)
+    (end_of(status, sink, disk.faults()), disk)
 }
 
-fn end_of(status: Status, sink: MemSink) -> Ended {
+fn end_of(status: Status, sink: MemSink, faults: u64) -> Ended {
     let MemSink {
         taken,
         plan: _,
@@ -71,5 +73,6 @@ fn end_of(status: Status, sink: MemSink) -> Ended {
     Ended {
         status,
         written: taken,
+        faults,
     }
 }

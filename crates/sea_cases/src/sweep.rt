@@ -21,8 +21,23 @@ struct Left {
 /// What differs in the sweeps of a case.
 pub fn differs(alloc: Global, run: &str) -> Result<Option<String>, AllocError> {
     let script = Script::of(alloc, run, 0)?;
+    if let Some(what) = refusal_in(alloc, run, script.lines.as_slice())? {
+        return Ok(Some(what));
+    }
     for line in run.split('\n') {
         if let Some(what) = line_differs(alloc, run, script.lines.as_slice(), line)? {
+            return Ok(Some(what));
+        }
+    }
+    Ok(None)
+}
+
+// What is refused where the script is played and nothing fails.
+fn refusal_in(alloc: Global, run: &str, lines: &[u8]) -> Result<Option<String>, AllocError> {
+    let (ended, _disk) = carried(alloc, run, lines, MemDisk::blank(alloc)?)?;
+    for reply in ended.replies().split('\n') {
+        if reply.contains("\"error\"") {
+            let what = format!(in alloc; "a line is refused where nothing fails: {reply}")?;
             return Ok(Some(what));
         }
     }
@@ -167,6 +182,10 @@ fn starts_differ(
 ) -> Result<Option<String>, AllocError> {
     for calls in span.0..span.1 {
         let left = stopped(alloc, run, lines, calls)?;
+        if left.status == Status::Done {
+            let what = format!(in alloc; "a stop after {calls} calls is never met")?;
+            return Ok(Some(what));
+        }
         if let Some(what) = start_differs(alloc, run, &left.disk, calls, span.2)? {
             return Ok(Some(what));
         }

@@ -1,5 +1,10 @@
-// Sources, sinks and clocks over readers, writers and system clocks that fail.
-use sea_edge::{Clock, Failed, FixedClock, Sink, Source, StdSink, StdSource, SystemClock};
+// Sources and sinks in memory whose calls are to fail; and sources, sinks and clocks over readers, writers and system
+// clocks that fail.
+ghost use Rattle.std.specs.Prelude.{◌<◌, length};
+
+use sea_edge::{
+    Clock, Failed, FixedClock, MemSink, MemSource, Sink, Source, StdSink, StdSource, SystemClock,
+};
 use std::alloc::{AllocError, Global};
 use std::io;
 use std::io::{Cursor, ErrorKind, Read, Write};
@@ -7,6 +12,104 @@ use std::process::Abort;
 use std::rt::Clock as RuntimeClock;
 use std::test::Fail;
 use std::time::Duration;
+
+// Takes all that a source has, and gives each piece, a failed one once more. Answers how many calls failed.
+fn carry<S: Source, K: Sink>(source: &mut S, sink: &mut K, room: &mut [u8]) -> u64
+    requires { 0 < length room.old }
+{
+    let mut faults = 0u64;
+    for _ in 0..1_000 {
+        let Ok(count) = source.take(room) else {
+            faults = faults.saturating_add(1);
+            continue;
+        };
+        if count == 0 {
+            break;
+        }
+        for _ in 0..2 {
+            if sink.give(&room[..count]).is_ok() {
+                break;
+            }
+            faults = faults.saturating_add(1);
+        }
+    }
+    faults
+}
+
+// Bytes that each differ from those beside them.
+fn bytes_of(alloc: Global, count: u32) -> Result<Vec<u8>, AllocError> {
+    let mut bytes = Vec::new(alloc);
+    for at in 0..count {
+        bytes.push((at % 251) as u8)?;
+    }
+    Ok(bytes)
+}
+
+// Carries 257 bytes past a take and a give that fail, the second of each, and stops a test where a byte is lost or doubled,
+// or a call more or less is made than one for each piece, one for each fault, and the take that finds the end.
+fn carries(rt: &impl Abort, alloc: Global, piece: usize, pieces: u64) -> Result<(), Fail> {
+    let all = bytes_of(alloc, 257)?;
+    let mut room = [0u8; 120];
+    assert!(rt; 0 < piece);
+    let mut source = MemSource::new(all.clone()?, piece, vec![in alloc; 2u64]?);
+    let mut sink = MemSink::new(Vec::new(alloc), vec![in alloc; 2u64]?);
+    assert_eq!(rt;
+        carry(&mut source, &mut sink, &mut room),
+        2,
+        "in pieces of {piece}"
+    );
+    assert!(rt; sink.taken == all, "in pieces of {piece}");
+    let (takes, gives) = (pieces.saturating_add(2), pieces.saturating_add(1));
+    assert_eq!(rt;
+        (source.plan.made, source.failed),
+        (takes, 1),
+        "in pieces of {piece}"
+    );
+    assert_eq!(rt;
+        (sink.plan.made, sink.failed),
+        (gives, 1),
+        "in pieces of {piece}"
+    );
+    Ok(())
+}
+
+// The most bytes of a take, and in how many pieces 257 bytes come.
+const PIECES: &str = "1 257
+7 37
+100 3";
+
+#[test]
+fn all_is_carried_past_two_faults_in_memory(rt: HostRuntime) -> Result<(), Fail> {
+    for row in PIECES.lines() {
+        let (piece, pieces) = row.split_once(' ').unwrap_or(("", ""));
+        let piece: usize = piece.parse().unwrap_or(0);
+        let pieces: u64 = pieces.parse().unwrap_or(0);
+        carries(&rt, rt.alloc(), piece, pieces)?;
+    }
+    Ok(())
+}
+
+#[test]
+fn a_listed_call_in_memory_moves_nothing(rt: HostRuntime) -> Result<(), Fail> {
+    let alloc = rt.alloc();
+    let mut source = MemSource::new(
+        Vec::from_slice(alloc, b"abcde")?,
+        3,
+        vec![in alloc; 1u64, 3]?,
+    );
+    let mut room = [b'.'; 4];
+    assert_eq!(rt; (source.take(&mut room), room), (Err(Failed), *b"...."));
+    assert_eq!(rt; (source.take(&mut room), room), (Ok(3), *b"abc."));
+    assert_eq!(rt; (source.take(&mut room), room), (Err(Failed), *b"abc."));
+    assert_eq!(rt; (source.take(&mut room), room), (Ok(2), *b"dec."));
+    assert_eq!(rt; (source.take(&mut room), room), (Ok(0), *b"dec."));
+    let mut sink = MemSink::new(Vec::from_slice(alloc, &[0])?, vec![in alloc; 1u64]?);
+    assert_eq!(rt; sink.give(&[7]), Err(Failed));
+    assert_eq!(rt; sink.taken.as_slice(), [0].as_slice());
+    assert_eq!(rt; sink.give(&[7, 8]), Ok(()));
+    assert_eq!(rt; sink.taken.as_slice(), [0, 7, 8].as_slice());
+    Ok(())
+}
 
 // A reader and a writer that break at one call each. The writer takes three bytes a call.
 #[derive(Drop)]

@@ -17,9 +17,13 @@ mod fields;
 #[cfg(test)]
 mod folder;
 #[cfg(test)]
+mod lines;
+#[cfg(test)]
 mod links;
 #[cfg(test)]
 mod log;
+#[cfg(test)]
+mod moments;
 #[cfg(test)]
 mod operations;
 #[cfg(test)]

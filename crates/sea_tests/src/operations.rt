@@ -1,11 +1,13 @@
-// Operations: the texts of those that no base takes, the plain base at the ends of its numbers, runs of entries, and the
-// check over a schema and the rows beside it.
+// Operations: the texts of those that no base takes, the plain base at the ends of its numbers, runs of entries, the check
+// over a schema and the rows beside it, and the entry that a record has.
 ghost use Rattle.std.specs.Prelude.{◌≡◌};
 
 use sea_cell::{ColKind, Moment, NewColumn, NewEnd, RowId, TableNo, Text, Texts};
+use sea_fields::Bytes;
 use sea_operation::{Counter, Counters, Entries, Entry, OpRefusal, Plain, plain_named};
 use sea_ops::{OpFault, RowsSeen, check, op_of_json, op_text};
 use sea_plain::{apply_plain, run_plain};
+use sea_record::entry_of_record;
 use sea_schema::Schema;
 use std::alloc::{AllocError, Global};
 use std::process::Abort;
@@ -314,6 +316,63 @@ fn a_check_looks_at_the_rows_beside_a_schema(rt: HostRuntime) -> Result<(), Fail
             Err(refusal) => refusal_shown(alloc, &refusal)?,
         };
         assert_eq!(rt; found.as_str(), wanted, "{line}");
+    }
+    Ok(())
+}
+
+const TABLE: &str = r#"{"columns":[{"name":"N","type":"text"}],"op":"insert_table","table":"T"}"#;
+
+// A byte row of fewer than 2^32 bytes: how many it has, in four bytes, and its own.
+fn put(out: &mut Bytes, row: &[u8]) -> Result<(), AllocError> {
+    out.append(&u32::try_from(row.len()).unwrap_or(0).to_be_bytes())?;
+    out.append(row)
+}
+
+// The record of an insert_table under the number 1, of so many minutes from the first moment and by a user: the number, the
+// kind 1, the minutes, the user and the text.
+fn record_of(alloc: Global, minutes: u64, user: &str) -> Result<Bytes, AllocError> {
+    let mut out = Bytes::new(alloc);
+    out.append(&1u64.to_be_bytes())?;
+    out.append(&[1])?;
+    out.append(&minutes.to_be_bytes())?;
+    put(&mut out, user.as_bytes())?;
+    put(&mut out, TABLE.as_bytes())?;
+    Ok(out)
+}
+
+// The number, the moment and the user of a record.
+fn record_shown(alloc: Global, record: &[u8]) -> Result<String, AllocError> {
+    match entry_of_record(alloc, record)? {
+        Some((lsn, entry)) => format!(in alloc; "{lsn} {} {}", entry.moment.0, entry.user.as_str()),
+        None => format!(in alloc; "none"),
+    }
+}
+
+// The minutes from the first moment to a record's, and its user, and what is read.
+const RECORDS: &str = "1035593280 play -> 1 0 play
+0 play -> 1 -1035593280 play
+5258964959 Zoé -> 1 4223371679 Zoé
+5258964960 play -> none
+0  -> 1 -1035593280 ";
+
+#[test]
+fn a_record_is_read_whole_and_with_its_user(rt: HostRuntime) -> Result<(), Fail> {
+    let alloc = rt.alloc();
+    for line in RECORDS.lines() {
+        let (fields, wanted) = line.split_once(" -> ").unwrap_or((line, ""));
+        let (minutes, user) = fields.split_once(' ').unwrap_or((fields, ""));
+        let minutes = minutes.parse::<u64>().ok().ok_or("no number")?;
+        let record = record_of(alloc, minutes, user)?;
+        let found = record_shown(alloc, record.as_slice())?;
+        assert_eq!(rt; found.as_str(), wanted, "{line}");
+    }
+    let mut record = record_of(alloc, 1_035_593_280, "play")?;
+    record.append(&[0])?;
+    let bytes = record.as_slice();
+    assert_eq!(rt; bytes.len(), 102);
+    for length in 0..=bytes.len() {
+        let entry = entry_of_record(alloc, &bytes[..length])?;
+        assert_eq!(rt; entry.is_some(), length == 101, "{length} bytes");
     }
     Ok(())
 }
