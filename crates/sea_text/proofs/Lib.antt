@@ -1,2 +1,3 @@
 pub mod DistinctLaws
 pub mod NamesLaws
+pub mod PlacesLaws

@@ -1,5 +1,5 @@
 -- What is found by name in a list.
-use Rattle.std.specs.Prelude.{◌≡◌, ℕ, List, [], Option, Some, None}
+use Rattle.std.specs.Prelude.{◌≡◌, ℕ, List, [], Option, Some, None, Bool, not, if◌then◌else◌}
 use Rattle.std.specs.List.{find, position_from}
 use Rattle.std.specs.Borrow.{Bor}
 use Rattle.std.specs.Str.{bytes_eq}
@@ -20,3 +20,11 @@ place_from name_of start items name = position_from (λ item. bytes_eq (name_of 
 -- places that tell of each name where the first thing of it is
 abbrev pub IsPlaces : {T : Type 0} → (T → List ℕ) → (List ℕ → Option ℕ) → List T → Type 0
 IsPlaces name_of places items = (name : List ℕ) → places name ≡ place_from name_of 0 items name
+
+-- a thing of another name
+abbrev pub has_another_name : {T : Type 0} → (T → List ℕ) → List ℕ → T → Bool
+has_another_name name_of name item = not (bytes_eq (name_of item) name)
+
+-- a change of a thing, if it has this name
+abbrev pub if_item_named : {T : Type 0} → (T → List ℕ) → List ℕ → (T → T) → T → T
+if_item_named name_of name change item = if bytes_eq (name_of item) name then change item else item

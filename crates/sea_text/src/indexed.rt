@@ -1,9 +1,9 @@
 // Lists whose items are found by name.
-ghost use Rattle.std.specs.Prelude.{◌≡◌, ℕ, List, [], Some, if◌then◌else◌, slice_get, IfOk, OnOk};
-ghost use Rattle.std.specs.Option.{option_copied};
+ghost use Rattle.std.specs.Prelude.{◌≡◌, ◌∷◌, ◌++◌, ℕ, List, [], Some, None, if◌then◌else◌, slice_get, string_bytes, filter, IfOk, OnOk, OnErr};
+ghost use Rattle.std.specs.Option.{option_copied, option_or};
 ghost use Rattle.std.specs.Str.{bytes_eq};
 ghost use Rattle.std.specs.BTreeMap.{get_by_text};
-ghost use Rattle.sea_text.specs.Named.{item_named, listed, IsPlaces};
+ghost use Rattle.sea_text.specs.Named.{item_named, listed, has_another_name, IsPlaces};
 
 use crate::duplicate::{Duplicate, copies_of};
 use sqlite_items::Items;
@@ -78,6 +78,38 @@ impl<T: Named + Drop> Indexed<T> {
     {
         found(self.items.as_slice(), &self.places, name)
     }
+
+    /// Puts one thing more at the end. It takes some log n comparisons for n things.
+    ///
+    /// # Errors
+    /// Want of memory, which leaves the things as they were. The same is true of each change below.
+    pub fn push(&mut self, alloc: Global, item: T) -> Result<(), AllocError>
+        ensures ok { OnOk result (self.new ≡ self.old ++ item ∷ []) }
+        ensures err { OnErr result (self.new ≡ self.old) }
+    {
+        let name = String::from_str(alloc, item.name())?;
+        let at = self.items.len();
+        self.items.push(item)?;
+        match add_place(&mut self.places, name, at) {
+            Ok(()) => Ok(()),
+            Err(error) => {
+                self.items.pop();
+                Err(error)
+            }
+        }
+    }
+
+    /// Takes out the things of a name. The others stay in their order. It takes some n log n comparisons for n things, and
+    /// copies none of them.
+    pub fn remove(&mut self, alloc: Global, name: &str) -> Result<(), AllocError>
+        ensures ok { OnOk result (self.new ≡ filter (has_another_name T.name name.now) self.old) }
+        ensures err { OnErr result (self.new ≡ self.old) }
+    {
+        let places = places_without(alloc, self.items.as_slice(), name)?;
+        take_out(&mut self.items, name);
+        self.places = places;
+        Ok(())
+    }
 }
 
 impl<T: Named + Duplicate + Drop> Indexed<T> {
@@ -134,6 +166,45 @@ fn put_place(alloc: Global, places: &mut Places, name: &str, at: usize) -> Resul
 {
     places.insert(String::from_str(alloc, name)?, at)?;
     Ok(())
+}
+
+// Puts the place of a name that has none.
+fn add_place(places: &mut Places, name: String, at: usize) -> Result<(), AllocError>
+    ensures ok { OnOk result ((other : List ℕ) → get_by_text places.new other ≡ option_or (get_by_text places.old other) (if bytes_eq (string_bytes name) other then Some at else None)) }
+    ensures err { OnErr result ((other : List ℕ) → get_by_text places.new other ≡ get_by_text places.old other) }
+{
+    if !places.contains_key(name.as_str()) {
+        places.insert(name, at)?;
+    }
+    Ok(())
+}
+
+// The places that things have once those of a name are taken out.
+fn places_without<T: Named>(alloc: Global, items: &[T], name: &str) -> Result<Places, AllocError>
+    ensures { IfOk result (λ places. IsPlaces T.name (get_by_text places) (filter (has_another_name T.name name.now) items.now)) }
+{
+    let mut places = BTreeMap::new(alloc);
+    let mut at = 0;
+    for item in items {
+        if item.name() != name {
+            add_place(&mut places, String::from_str(alloc, item.name())?, at)?;
+            at += 1;
+        }
+    }
+    Ok(places)
+}
+
+// Takes out the things of a name, from the last one to the first.
+fn take_out<T: Named + Drop>(items: &mut Items<T>, name: &str)
+    ensures { items.new ≡ filter (has_another_name T.name name.now) items.old }
+{
+    let mut at = items.len();
+    while at > 0 {
+        at -= 1;
+        if items.as_slice()[at].name() == name {
+            items.remove(at);
+        }
+    }
 }
 
 // The first thing of a name, by the places.
