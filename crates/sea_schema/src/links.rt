@@ -20,9 +20,7 @@ impl Table {
     ) -> Result<Table, AllocError>
         ensures { IfOk result (λ table. table ≡ with_link_column key.0 name.now end self.now) }
     {
-        let mut columns = self.columns.copies(alloc)?;
-        columns.push(link_column(alloc, key, name, end)?)?;
-        self.with_columns(alloc, columns)
+        self.with_last_column(alloc, link_column(alloc, key, name, end)?)
     }
 
     /// The table without its ends of these links. The other columns and the views stay.

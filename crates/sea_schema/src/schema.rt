@@ -111,9 +111,8 @@ impl Schema {
     {
         let number = TableNo(self.next_table);
         let table = Table::new(self.alloc, number, self.next_column, name, columns)?;
-        let mut tables = self.tables.copies(self.alloc)?;
-        tables.push(Shared::new(self.alloc, table)?)?;
-        self.put_tables(tables)?;
+        let shared = Shared::new(self.alloc, table)?;
+        self.tables.push(self.alloc, shared)?;
         self.next_table += 1;
         self.next_column += columns.len() as u32;
         Ok(())

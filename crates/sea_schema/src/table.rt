@@ -3,7 +3,7 @@ ghost use Rattle.std.specs.Prelude.{◌≡◌, ◌+◌, ◌<◌, ◌^◌, ◌++�
 ghost use Rattle.std.specs.Option.{option_copied};
 ghost use Rattle.std.specs.List.{list_any};
 ghost use Rattle.sea_text.specs.Distinct.{once};
-ghost use Rattle.sea_schema.specs.Tables.{column_named as column_named_of, key_named, view_named, column_of as column_for, columns_of as columns_for, table_of, with_name, with_column, if_named, column_with_name, with_column_name, column_with_options, with_options, is_view as is_view_of, if_view, put_view, with_view, is_other_view as is_other_view_of, without_view, has_other_name as has_other_name_of, is_of_other as is_of_other_of, without_filters, without_column};
+ghost use Rattle.sea_schema.specs.Tables.{column_named as column_named_of, key_named, view_named, column_of as column_for, columns_of as columns_for, table_of, with_name, with_column, if_named, column_with_name, with_column_name, column_with_options, with_options, is_view as is_view_of, if_view, put_view, with_view, without_view, is_of_other as is_of_other_of, without_filters, without_column};
 
 use sea_cell::{
     ColKey, Column, Columns, Duplicate, Filter, Filters, Indexed, Named, NewColumn, Shared,
@@ -114,9 +114,20 @@ impl Table {
     ) -> Result<Table, AllocError>
         ensures { IfOk result (λ table. table ≡ with_column key.0 column.now self.now) }
     {
-        let mut columns = self.columns.copies(alloc)?;
-        columns.push(column_of(alloc, key.0, column)?)?;
-        self.with_columns(alloc, columns)
+        self.with_last_column(alloc, column_of(alloc, key.0, column)?)
+    }
+
+    // The table with a column at the end.
+    pub(crate) fn with_last_column(
+        &self,
+        alloc: Global,
+        column: Column,
+    ) -> Result<Table, AllocError>
+        ensures { IfOk result (λ table. table ≡ record self.now { columns = self.now.columns ++ column ∷ [] }) }
+    {
+        let mut table = self.duplicate(alloc)?;
+        table.columns.push(alloc, column)?;
+        Ok(table)
     }
 
     /// The table with another name for a column.
@@ -150,13 +161,12 @@ impl Table {
         ensures { IfOk result (λ table. table ≡ without_column column.now self.now) }
     {
         let gone = self.key_of(column);
+        let mut columns = self.columns.duplicate(alloc)?;
+        columns.remove(alloc, column)?;
         Ok(Table {
             no: self.no,
             name: self.name.duplicate(alloc)?,
-            columns: Columns::of(
-                alloc,
-                columns_without(alloc, self.columns.as_slice(), column)?,
-            )?,
+            columns,
             views: Views::of(alloc, views_without(alloc, self.views.as_slice(), gone)?)?,
         })
     }
@@ -177,12 +187,9 @@ impl Table {
     pub fn without_view(&self, alloc: Global, view: &str) -> Result<Table, AllocError>
         ensures { IfOk result (λ table. table ≡ without_view view.now self.now) }
     {
-        Ok(Table {
-            no: self.no,
-            name: self.name.duplicate(alloc)?,
-            columns: self.columns.duplicate(alloc)?,
-            views: Views::of(alloc, other_views(alloc, self.views.as_slice(), view)?)?,
-        })
+        let mut table = self.duplicate(alloc)?;
+        table.views.remove(alloc, view)?;
+        Ok(table)
     }
 }
 
@@ -293,30 +300,6 @@ pub fn more_options(alloc: Global, options: &Texts, more: &Texts) -> Result<Text
     without_repeats(alloc, all.as_slice())
 }
 
-// Columns without the one of a name.
-fn columns_without(
-    alloc: Global,
-    columns: &[Column],
-    name: &str,
-) -> Result<Items<Column>, AllocError>
-    ensures { IfOk result (λ kept. kept ≡ filter (has_other_name_of name.now) columns.now) }
-{
-    let mut kept = Items::new(alloc);
-    for column in columns {
-        if has_other_name(column, name) {
-            kept.push(column.duplicate(alloc)?)?;
-        }
-    }
-    Ok(kept)
-}
-
-// The column has another name.
-fn has_other_name(column: &Column, name: &str) -> bool
-    ensures { result ≡ has_other_name_of name.now column.now }
-{
-    column.name.as_str() != name
-}
-
 // Views without their filters of a column.
 fn views_without(
     alloc: Global,
@@ -415,24 +398,4 @@ fn replaced(alloc: Global, view: &View, new: &View) -> Result<View, AllocError>
         return new.duplicate(alloc);
     }
     view.duplicate(alloc)
-}
-
-// The views of other names.
-fn other_views(alloc: Global, views: &[View], name: &str) -> Result<Items<View>, AllocError>
-    ensures { IfOk result (λ kept. kept ≡ filter (is_other_view_of name.now) views.now) }
-{
-    let mut kept = Items::new(alloc);
-    for view in views {
-        if is_other_view(view, name) {
-            kept.push(view.duplicate(alloc)?)?;
-        }
-    }
-    Ok(kept)
-}
-
-// The view has another name.
-fn is_other_view(view: &View, name: &str) -> bool
-    ensures { result ≡ is_other_view_of name.now view.now }
-{
-    view.name.as_str() != name
 }
