@@ -4,7 +4,7 @@ ghost use Rattle.std.specs.Bool.{OnFalse};
 ghost use Rattle.std.specs.List.{list_any};
 ghost use Rattle.sea_schema.specs.Tables.{link_column as link_column_for, with_link_column, link_of as link_of_column, links_of as links_of_columns, links_named as links_of_named, is_link_among as is_link_among_of, is_end_of as is_end_of_links, is_of_no_link as is_of_none_of, without_links};
 
-use crate::table::Table;
+use crate::table::{Table, Tables};
 use sea_cell::{ColKey, ColKind, Column, Duplicate, LinkEnd, Shared, Text, Texts};
 use sqlite_items::Items;
 use std::alloc::{AllocError, Global};
@@ -150,15 +150,15 @@ fn columns_without_ends(
 // Tables without their ends of these links. Without links they are the tables that are given.
 pub(crate) fn without_ends(
     alloc: Global,
-    tables: Items<Shared<Table>>,
+    tables: Tables,
     links: &[u32],
-) -> Result<Items<Shared<Table>>, AllocError>
+) -> Result<Tables, AllocError>
     ensures { IfOk result (λ new. new ≡ map (without_links links.now) tables) }
 {
     if links.is_empty() {
         return Ok(tables);
     }
-    tables_without(alloc, tables.as_slice(), links)
+    Tables::of(alloc, tables_without(alloc, tables.as_slice(), links)?)
 }
 
 // Tables without their ends of these links.

@@ -3,13 +3,13 @@ ghost use Rattle.std.specs.Prelude.{◌≡◌, ◌+◌, ◌<◌, ◌^◌, ◌++�
 ghost use Rattle.std.specs.Option.{option_copied};
 ghost use Rattle.std.specs.Str.{bytes_eq};
 ghost use Rattle.sea_schema.specs.Tables.{table_named, with_name, with_link_column, with_column_name, with_options, with_view, without_view};
-ghost use Rattle.sea_schema.specs.Layout.{empty_layout, if_table, in_table, with_table, with_plain_column, with_link, with_new_column, keys_of_new, links_of_new, number_named, links_of_column, links_of_table, without_column_of, without_table_of, end_towards, is_other_table as is_other_table_of};
+ghost use Rattle.sea_schema.specs.Layout.{empty_layout, if_table, in_table, with_table, with_plain_column, with_link, with_new_column, keys_of_new, links_of_new, number_named, links_of_column, links_of_table, without_column_of, without_table_of, end_towards};
 ghost use Rattle.sea_schema.specs.Changes.{change_of};
 
 use crate::links::without_ends;
 use crate::table::{Table, Tables};
 use sea_cell::{ColKey, Duplicate, LinkEnd, NewColumn, NewEnd, Shared, TableNo, Texts, View};
-use sqlite_items::Items;
+use sea_text::ChangeOf;
 use std::alloc::{AllocError, Global};
 use std::marker::Model;
 
@@ -43,6 +43,14 @@ enum Change<'a> {
     WithoutColumn(&'a str),
     View(&'a View),
     WithoutView(&'a str),
+}
+
+impl<'a> ChangeOf<Shared<Table>> for Change<'a> {
+    ghost changed = { change_of };
+
+    fn made_of(&self, alloc: Global, item: &Shared<Table>) -> Result<Shared<Table>, AllocError> {
+        Shared::new(alloc, changed_table(alloc, item.get(), self)?)
+    }
 }
 
 impl Schema {
@@ -133,8 +141,7 @@ impl Schema {
         ensures ok { OnOk result (self.new ≡ without_table_of table.now self.old) }
         ensures err { OnErr result (self.new ≡ self.old) }
     {
-        let tables = self.tables_without_table(table)?;
-        self.put_tables(tables)?;
+        self.tables = self.tables_without_table(table)?;
         Ok(())
     }
 
@@ -167,8 +174,7 @@ impl Schema {
         ensures ok { OnOk result (self.new ≡ without_column_of table.now column.now self.old) }
         ensures err { OnErr result (self.new ≡ self.old) }
     {
-        let tables = self.tables_without_column(table, column)?;
-        self.put_tables(tables)?;
+        self.tables = self.tables_without_column(table, column)?;
         Ok(())
     }
 
@@ -223,8 +229,7 @@ impl Schema {
         ensures ok { OnOk result (self.new ≡ with_link table.now name.now other.now self.old) }
         ensures err { OnErr result (self.new ≡ self.old) }
     {
-        let tables = self.tables_with_link(table, name, other)?;
-        self.put_tables(tables)?;
+        self.tables = self.tables_with_link(table, name, other)?;
         self.next_column += 2;
         self.next_link += 1;
         Ok(())
@@ -236,7 +241,7 @@ impl Schema {
         table: &str,
         name: &str,
         other: &NewEnd,
-    ) -> Result<Items<Shared<Table>>, AllocError>
+    ) -> Result<Tables, AllocError>
         requires { self.now.next_column + 1 < 2 ^ 32 }
         ensures { IfOk result (λ tables. tables ≡ (with_link table.now name.now other.now self.now).tables) }
     {
@@ -244,9 +249,10 @@ impl Schema {
         let first = self.end_towards(other.table.as_str(), true);
         let second = self.end_towards(table, false);
         let (to, to_name) = (other.table.as_str(), other.name.as_str());
-        let tables = tables_with_end(self.alloc, self.tables.as_slice(), table, key, name, first)?;
-        let linked = tables_with_end(self.alloc, tables.as_slice(), to, key + 1, to_name, second)?;
-        Ok(linked)
+        let mut tables = self.tables.duplicate(self.alloc)?;
+        add_end(self.alloc, &mut tables, table, key, name, first)?;
+        add_end(self.alloc, &mut tables, to, key + 1, to_name, second)?;
+        Ok(tables)
     }
 
     // An end of the next link, whose other end is in the table of a name.
@@ -271,24 +277,22 @@ impl Schema {
     }
 
     // The tables without a column, and without the other end of its link.
-    fn tables_without_column(
-        &self,
-        table: &str,
-        column: &str,
-    ) -> Result<Items<Shared<Table>>, AllocError>
+    fn tables_without_column(&self, table: &str, column: &str) -> Result<Tables, AllocError>
         ensures { IfOk result (λ tables. tables ≡ (without_column_of table.now column.now self.now).tables) }
     {
         let links = self.links_of_column(table, column)?;
-        let tables = self.changed(table, &Change::WithoutColumn(column))?;
+        let mut tables = self.tables.duplicate(self.alloc)?;
+        tables.change(self.alloc, table, &Change::WithoutColumn(column))?;
         without_ends(self.alloc, tables, &links)
     }
 
     // The tables without one of them, and without the other ends of its links.
-    fn tables_without_table(&self, table: &str) -> Result<Items<Shared<Table>>, AllocError>
+    fn tables_without_table(&self, table: &str) -> Result<Tables, AllocError>
         ensures { IfOk result (λ tables. tables ≡ (without_table_of table.now self.now).tables) }
     {
         let links = self.links_of_table(table)?;
-        let tables = other_tables(self.alloc, self.tables.as_slice(), table)?;
+        let mut tables = self.tables.duplicate(self.alloc)?;
+        tables.remove(self.alloc, table)?;
         without_ends(self.alloc, tables, &links)
     }
 
@@ -312,30 +316,13 @@ impl Schema {
         }
     }
 
-    // Puts tables in the place of those that there are.
-    fn put_tables(&mut self, tables: Items<Shared<Table>>) -> Result<(), AllocError>
-        ensures ok { OnOk result (self.new ≡ record self.old { tables = tables }) }
-        ensures err { OnErr result (self.new ≡ self.old) }
-    {
-        self.tables = Tables::of(self.alloc, tables)?;
-        Ok(())
-    }
-
     // Makes a change of the table of a name.
     fn change(&mut self, name: &str, change: &Change) -> Result<(), AllocError>
         ensures ok { OnOk result (self.new ≡ in_table name.now (change_of change.now) self.old) }
         ensures err { OnErr result (self.new ≡ self.old) }
     {
-        let tables = self.changed(name, change)?;
-        self.put_tables(tables)?;
+        self.tables.change(self.alloc, name, change)?;
         Ok(())
-    }
-
-    // The tables with a change of the one of a name.
-    fn changed(&self, name: &str, change: &Change) -> Result<Items<Shared<Table>>, AllocError>
-        ensures { IfOk result (λ tables. tables ≡ map (if_table name.now (change_of change.now)) self.now.tables) }
-    {
-        Ok(changed_tables(self.alloc, self.tables.as_slice(), name, change)?)
     }
 }
 
@@ -351,50 +338,20 @@ impl Duplicate for Schema {
     }
 }
 
-// Tables with an end of a link in the one of a name.
-fn tables_with_end(
+// Adds an end of a link to the table of a name.
+fn add_end(
     alloc: Global,
-    tables: &[Shared<Table>],
+    tables: &mut Tables,
     table: &str,
     key: u32,
     name: &str,
     end: LinkEnd,
-) -> Result<Items<Shared<Table>>, AllocError>
-    ensures { IfOk result (λ new. new ≡ map (if_table table.now (with_link_column key name.now end)) tables.now) }
+) -> Result<(), AllocError>
+    ensures { OnOk result (tables.new ≡ map (if_table table.now (with_link_column key name.now end)) tables.old) }
 {
     let change = Change::LinkColumn(ColKey(key), name, end);
-    changed_tables(alloc, tables, table, &change)
-}
-
-// Tables with a change of the one of a name.
-fn changed_tables(
-    alloc: Global,
-    tables: &[Shared<Table>],
-    name: &str,
-    change: &Change,
-) -> Result<Items<Shared<Table>>, AllocError>
-    ensures { IfOk result (λ new. new ≡ map (if_table name.now (change_of change.now)) tables.now) }
-{
-    let mut new = Items::new(alloc);
-    for table in tables {
-        new.push(changed_if(alloc, table, name, change)?)?;
-    }
-    Ok(new)
-}
-
-// A table with a change if it is the one of this name.
-fn changed_if(
-    alloc: Global,
-    table: &Shared<Table>,
-    name: &str,
-    change: &Change,
-) -> Result<Shared<Table>, AllocError>
-    ensures { IfOk result (λ new. new ≡ if_table name.now (change_of change.now) table.now) }
-{
-    if is_table(table.get(), name) {
-        return Shared::new(alloc, changed_table(alloc, table.get(), change)?);
-    }
-    table.duplicate(alloc)
+    tables.change(alloc, table, &change)?;
+    Ok(())
 }
 
 // A table with a change.
@@ -411,35 +368,4 @@ fn changed_table(alloc: Global, table: &Table, change: &Change) -> Result<Table,
         Change::View(view) => table.with_view(alloc, view),
         Change::WithoutView(view) => table.without_view(alloc, view),
     }
-}
-
-// The table has this name.
-fn is_table(table: &Table, name: &str) -> bool
-    ensures { result ≡ bytes_eq table.now.name name.now }
-{
-    table.name.as_str() == name
-}
-
-// The tables of other names.
-fn other_tables(
-    alloc: Global,
-    tables: &[Shared<Table>],
-    name: &str,
-) -> Result<Items<Shared<Table>>, AllocError>
-    ensures { IfOk result (λ kept. kept ≡ filter (is_other_table_of name.now) tables.now) }
-{
-    let mut kept = Items::new(alloc);
-    for table in tables {
-        if is_other_table(table.get(), name) {
-            kept.push(table.duplicate(alloc)?)?;
-        }
-    }
-    Ok(kept)
-}
-
-// The table has another name.
-fn is_other_table(table: &Table, name: &str) -> bool
-    ensures { result ≡ is_other_table_of name.now table.now }
-{
-    table.name.as_str() != name
 }

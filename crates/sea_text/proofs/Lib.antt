@@ -1,3 +1,4 @@
 pub mod DistinctLaws
 pub mod NamesLaws
 pub mod PlacesLaws
+pub mod ChangesLaws

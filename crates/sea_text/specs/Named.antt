@@ -25,6 +25,10 @@ IsPlaces name_of places items = (name : List ℕ) → places name ≡ place_from
 abbrev pub has_another_name : {T : Type 0} → (T → List ℕ) → List ℕ → T → Bool
 has_another_name name_of name item = not (bytes_eq (name_of item) name)
 
+-- a thing of this name
+abbrev pub is_named : {T : Type 0} → (T → List ℕ) → List ℕ → T → Bool
+is_named name_of name item = bytes_eq (name_of item) name
+
 -- a change of a thing, if it has this name
 abbrev pub if_item_named : {T : Type 0} → (T → List ℕ) → List ℕ → (T → T) → T → T
 if_item_named name_of name change item = if bytes_eq (name_of item) name then change item else item

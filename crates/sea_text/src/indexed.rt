@@ -1,9 +1,10 @@
 // Lists whose items are found by name.
-ghost use Rattle.std.specs.Prelude.{◌≡◌, ◌∷◌, ◌++◌, ℕ, List, [], Some, None, if◌then◌else◌, slice_get, string_bytes, filter, IfOk, OnOk, OnErr};
+ghost use Rattle.std.specs.Prelude.{◌≡◌, ◌∷◌, ◌++◌, ℕ, List, [], Some, None, if◌then◌else◌, slice_get, slice_set, length, ◌<◌, string_bytes, map, filter, IfOk, OnOk, OnErr};
 ghost use Rattle.std.specs.Option.{option_copied, option_or};
 ghost use Rattle.std.specs.Str.{bytes_eq};
 ghost use Rattle.std.specs.BTreeMap.{get_by_text};
-ghost use Rattle.sea_text.specs.Named.{item_named, listed, has_another_name, IsPlaces};
+ghost use Rattle.sea_text.specs.Named.{item_named, listed, has_another_name, is_named as is_named_of, if_item_named, IsPlaces};
+ghost use Rattle.std.specs.List.{list_all};
 
 use crate::duplicate::{Duplicate, copies_of};
 use sqlite_items::Items;
@@ -19,6 +20,16 @@ pub trait Named {
     /// The name or id.
     fn name(&self) -> &str
         ensures { result.now ≡ name self.now };
+}
+
+/// A change of things of a kind.
+pub trait ChangeOf<T> {
+    /// What the change makes of a thing.
+    ghost changed: { Self → T → T };
+
+    /// The thing as the change makes it.
+    fn made_of(&self, alloc: Global, item: &T) -> Result<T, AllocError>
+        ensures { IfOk result (λ new. new ≡ changed self.now item.now) };
 }
 
 // Where the first thing of each name stands in a list.
@@ -119,6 +130,30 @@ impl<T: Named + Duplicate + Drop> Indexed<T> {
     {
         Ok(Items::from_vec(copies_of(alloc, self.as_slice())?))
     }
+
+    /// Changes the things of a name, each in its place. Where they keep the name, no other thing is copied, and the index
+    /// stays as it is.
+    pub fn change<C: ChangeOf<T>>(
+        &mut self,
+        alloc: Global,
+        name: &str,
+        change: &C,
+    ) -> Result<(), AllocError>
+        ensures ok { OnOk result (self.new ≡ map (if_item_named T.name name.now (C.changed change.now)) self.old) }
+        ensures err { OnErr result (self.new ≡ self.old) }
+    {
+        let news = changes(alloc, self.items.as_slice(), name, change)?;
+        if are_named(news.as_slice(), name) {
+            put_changes(&mut self.items, name, news);
+            return Ok(());
+        }
+        let mut changed = self.copies(alloc)?;
+        put_changes(&mut changed, name, news);
+        let places = places_of(alloc, changed.as_slice())?;
+        self.items = changed;
+        self.places = places;
+        Ok(())
+    }
 }
 
 impl<T: Named + Duplicate + Drop> Duplicate for Indexed<T> {
@@ -204,6 +239,63 @@ fn take_out<T: Named + Drop>(items: &mut Items<T>, name: &str)
         if items.as_slice()[at].name() == name {
             items.remove(at);
         }
+    }
+}
+
+// The thing has this name.
+fn is_named<T: Named>(item: &T, name: &str) -> bool
+    ensures { result ≡ is_named_of T.name name.now item.now }
+{
+    item.name() == name
+}
+
+// All of the things have this name.
+fn are_named<T: Named>(items: &[T], name: &str) -> bool
+    ensures { result ≡ list_all (is_named_of T.name name.now) items.now }
+{
+    items.iter().all(|item| is_named(item, name))
+}
+
+// What a change makes of the things of a name, in their order.
+fn changes<T: Named + Drop, C: ChangeOf<T>>(
+    alloc: Global,
+    items: &[T],
+    name: &str,
+    change: &C,
+) -> Result<Items<T>, AllocError>
+    ensures { IfOk result (λ news. news ≡ map (C.changed change.now) (filter (is_named_of T.name name.now) items.now)) }
+{
+    let mut news = Items::new(alloc);
+    for item in items {
+        if is_named(item, name) {
+            news.push(change.made_of(alloc, item)?)?;
+        }
+    }
+    Ok(news)
+}
+
+// Puts what a change made of the things of a name into their places, from the last one to the first.
+fn put_changes<T: Named + Drop>(items: &mut Items<T>, name: &str, news: Items<T>)
+    ensures { (change : T → T) → news ≡ map change (filter (is_named_of T.name name.now) items.old) → items.new ≡ map (if_item_named T.name name.now change) items.old }
+{
+    let mut news = news;
+    let mut at = items.len();
+    while at > 0 {
+        at -= 1;
+        if is_named(&items.as_slice()[at], name) {
+            put_last(items, at, &mut news);
+        }
+    }
+}
+
+// Puts the last one of some things into a place.
+fn put_last<T: Drop>(items: &mut Items<T>, at: usize, news: &mut Items<T>)
+    requires { at < length items.old }
+    ensures length { length items.new ≡ length items.old }
+    ensures put { (others : List T) (last : T) → news.old ≡ others ++ last ∷ [] → (news.new ≡ others) × (items.new ≡ slice_set items.old at last) }
+{
+    if let Some(last) = news.pop() {
+        items.set(at, last);
     }
 }
 

@@ -14,6 +14,6 @@ mod text_type;
 
 pub use distinct::{insert_text, is_among, no_text_goes_or_stays_twice, without_repeats};
 pub use duplicate::{Duplicate, copies_of};
-pub use indexed::{Indexed, Named, items_in, named_in};
+pub use indexed::{ChangeOf, Indexed, Named, items_in, named_in};
 pub use shared::Shared;
 pub use text_type::{Text, Texts};
