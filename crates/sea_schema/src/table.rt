@@ -1,14 +1,15 @@
 // Tables without their rows.
-ghost use Rattle.std.specs.Prelude.{◌≡◌, ◌+◌, ◌<◌, ◌^◌, ◌++◌, ◌∷◌, [], map, filter, length, IfOk};
+ghost use Rattle.std.specs.Prelude.{◌≡◌, ◌+◌, ◌<◌, ◌^◌, ◌++◌, ◌∷◌, [], map, filter, length, IfOk, OnOk};
 ghost use Rattle.std.specs.Option.{option_copied};
 ghost use Rattle.std.specs.List.{list_any};
 ghost use Rattle.sea_text.specs.Distinct.{once};
-ghost use Rattle.sea_schema.specs.Tables.{column_named as column_named_of, key_named, view_named, column_of as column_for, columns_of as columns_for, table_of, with_name, with_column, if_named, column_with_name, with_column_name, column_with_options, with_options, is_view as is_view_of, if_view, put_view, with_view, without_view, is_of_other as is_of_other_of, without_filters, without_column};
+ghost use Rattle.sea_schema.specs.Tables.{column_named as column_named_of, key_named, view_named, column_of as column_for, columns_of as columns_for, table_of, with_name, with_column, column_with_name, with_column_name, column_with_options, with_options, is_view as is_view_of, put_view, with_view, without_view, is_of_other as is_of_other_of, without_filters, without_column};
 
 use sea_cell::{
     ColKey, Column, Columns, Duplicate, Filter, Filters, Indexed, Named, NewColumn, Shared,
     TableNo, Text, Texts, View, Views, without_repeats,
 };
+use sea_text::ChangeOf;
 use sqlite_items::Items;
 use std::alloc::{AllocError, Global};
 
@@ -29,6 +30,52 @@ impl Named for Table {
 
     fn name(&self) -> &str {
         self.name.as_str()
+    }
+}
+
+// Another name for a column.
+#[derive(Clone, Copy)]
+struct NewName<'a> {
+    to: &'a str,
+}
+
+impl<'a> ChangeOf<Column> for NewName<'a> {
+    ghost changed = { λ change. column_with_name change.to.now };
+
+    fn made_of(&self, alloc: Global, column: &Column) -> Result<Column, AllocError> {
+        let mut new = column.duplicate(alloc)?;
+        new.name = Text::copy_of(alloc, self.to)?;
+        Ok(new)
+    }
+}
+
+// More options for a column.
+#[derive(Clone, Copy)]
+struct MoreOptions<'a> {
+    options: &'a Texts,
+}
+
+impl<'a> ChangeOf<Column> for MoreOptions<'a> {
+    ghost changed = { λ change. column_with_options change.options.now };
+
+    fn made_of(&self, alloc: Global, column: &Column) -> Result<Column, AllocError> {
+        let mut new = column.duplicate(alloc)?;
+        new.options = more_options(alloc, &column.options, self.options)?;
+        Ok(new)
+    }
+}
+
+// Another view in the place of one.
+#[derive(Clone, Copy)]
+struct InItsPlace<'a> {
+    view: &'a View,
+}
+
+impl<'a> ChangeOf<View> for InItsPlace<'a> {
+    ghost changed = { λ change old. change.view.now };
+
+    fn made_of(&self, alloc: Global, _old: &View) -> Result<View, AllocError> {
+        self.view.duplicate(alloc)
     }
 }
 
@@ -139,8 +186,9 @@ impl Table {
     ) -> Result<Table, AllocError>
         ensures { IfOk result (λ table. table ≡ with_column_name column.now to.now self.now) }
     {
-        let columns = columns_with_name(alloc, self.columns.as_slice(), column, to)?;
-        self.with_columns(alloc, columns)
+        let mut table = self.duplicate(alloc)?;
+        table.columns.change(alloc, column, &NewName { to })?;
+        Ok(table)
     }
 
     /// The table with more options for a select column: those that aren't there yet, at the end.
@@ -152,8 +200,11 @@ impl Table {
     ) -> Result<Table, AllocError>
         ensures { IfOk result (λ table. table ≡ with_options column.now options.now self.now) }
     {
-        let columns = columns_with_options(alloc, self.columns.as_slice(), column, options)?;
-        self.with_columns(alloc, columns)
+        let mut table = self.duplicate(alloc)?;
+        table
+            .columns
+            .change(alloc, column, &MoreOptions { options })?;
+        Ok(table)
     }
 
     /// The table without a column. The filters that ask for its cells go too.
@@ -175,12 +226,9 @@ impl Table {
     pub fn with_view(&self, alloc: Global, view: &View) -> Result<Table, AllocError>
         ensures { IfOk result (λ table. table ≡ with_view view.now self.now) }
     {
-        Ok(Table {
-            no: self.no,
-            name: self.name.duplicate(alloc)?,
-            columns: self.columns.duplicate(alloc)?,
-            views: Views::of(alloc, views_with(alloc, &self.views, view)?)?,
-        })
+        let mut table = self.duplicate(alloc)?;
+        put_view_into(alloc, &mut table.views, view)?;
+        Ok(table)
     }
 
     /// The table without a view.
@@ -230,65 +278,6 @@ fn column_of(alloc: Global, key: u32, column: &NewColumn) -> Result<Column, Allo
         options: without_repeats(alloc, column.options.as_slice())?,
         other: None,
     })
-}
-
-// Columns of which the one of a name has another one.
-fn columns_with_name(
-    alloc: Global,
-    columns: &[Column],
-    name: &str,
-    to: &str,
-) -> Result<Items<Column>, AllocError>
-    ensures { IfOk result (λ new. new ≡ map (if_named name.now (column_with_name to.now)) columns.now) }
-{
-    let mut new = Items::new(alloc);
-    for column in columns {
-        new.push(renamed(alloc, column, name, to)?)?;
-    }
-    Ok(new)
-}
-
-// A column, with another name if it is the one of this name.
-fn renamed(alloc: Global, column: &Column, name: &str, to: &str) -> Result<Column, AllocError>
-    ensures { IfOk result (λ new. new ≡ if_named name.now (column_with_name to.now) column.now) }
-{
-    let mut new = column.duplicate(alloc)?;
-    if column.name.as_str() == name {
-        new.name = Text::copy_of(alloc, to)?;
-    }
-    Ok(new)
-}
-
-// Columns of which the one of a name has more options.
-fn columns_with_options(
-    alloc: Global,
-    columns: &[Column],
-    name: &str,
-    options: &Texts,
-) -> Result<Items<Column>, AllocError>
-    ensures { IfOk result (λ new. new ≡ map (if_named name.now (column_with_options options.now)) columns.now) }
-{
-    let mut new = Items::new(alloc);
-    for column in columns {
-        new.push(extended(alloc, column, name, options)?)?;
-    }
-    Ok(new)
-}
-
-// A column, with more options if it is the one of this name.
-fn extended(
-    alloc: Global,
-    column: &Column,
-    name: &str,
-    options: &Texts,
-) -> Result<Column, AllocError>
-    ensures { IfOk result (λ new. new ≡ if_named name.now (column_with_options options.now) column.now) }
-{
-    let mut new = column.duplicate(alloc)?;
-    if column.name.as_str() == name {
-        new.options = more_options(alloc, &column.options, options)?;
-    }
-    Ok(new)
 }
 
 /// Options with more of them at the end, each once, at its first place.
@@ -353,16 +342,16 @@ fn is_of_other(filter: &Filter, column: Option<ColKey>) -> bool
     }
 }
 
-// Views with this one.
-fn views_with(alloc: Global, views: &Views, view: &View) -> Result<Items<View>, AllocError>
-    ensures { IfOk result (λ new. new ≡ put_view view.now views.now) }
+// Puts a view in the place of the one of its name, else at the end.
+fn put_view_into(alloc: Global, views: &mut Views, view: &View) -> Result<(), AllocError>
+    ensures { OnOk result (views.new ≡ put_view view.now views.old) }
 {
     if has_view(views.as_slice(), view.name.as_str()) {
-        return views_replaced(alloc, views.as_slice(), view);
+        views.change(alloc, view.name.as_str(), &InItsPlace { view })?;
+        return Ok(());
     }
-    let mut new = views.copies(alloc)?;
-    new.push(view.duplicate(alloc)?)?;
-    Ok(new)
+    views.push(alloc, view.duplicate(alloc)?)?;
+    Ok(())
 }
 
 // There is a view of this name.
@@ -377,25 +366,4 @@ fn is_view(view: &View, name: &str) -> bool
     ensures { result ≡ is_view_of name.now view.now }
 {
     view.name.as_str() == name
-}
-
-// Views with this one in the place of the one of its name.
-fn views_replaced(alloc: Global, views: &[View], view: &View) -> Result<Items<View>, AllocError>
-    ensures { IfOk result (λ new. new ≡ map (if_view view.now) views.now) }
-{
-    let mut new = Items::new(alloc);
-    for one in views {
-        new.push(replaced(alloc, one, view)?)?;
-    }
-    Ok(new)
-}
-
-// A view, or this one if it has its name.
-fn replaced(alloc: Global, view: &View, new: &View) -> Result<View, AllocError>
-    ensures { IfOk result (λ one. one ≡ if_view new.now view.now) }
-{
-    if is_view(view, new.name.as_str()) {
-        return new.duplicate(alloc);
-    }
-    view.duplicate(alloc)
 }
