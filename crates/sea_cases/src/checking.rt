@@ -10,11 +10,11 @@ use sea_moment::is_moment;
 const SWEEPS: &str = "@faults @stops @starts";
 
 // What a run may have once.
-const ONCE: &str = "@ends @stop @words @limit @minutes @pieces @reopened";
+const ONCE: &str = "@ends @stop @words @no_folder @limit @minutes @pieces @reopened";
 
 // What a run that is swept has none of.
 const NOT_SWEPT: &str =
-    "@want @wants @reopened @words @take_fails @give_fails @call_fails @fails_here @stop @file @size @holds";
+    "@want @wants @reopened @words @no_folder @take_fails @give_fails @call_fails @fails_here @stop @file @size @holds";
 
 /// What is bad in a run.
 pub fn bad_run(run: &str) -> Option<&str> {
@@ -26,6 +26,9 @@ pub fn bad_run(run: &str) -> Option<&str> {
     }
     if has(run, "@words") && has(run, "@limit") {
         return Some("@limit beside @words");
+    }
+    if has(run, "@no_folder") && !has(run, "@words") {
+        return Some("@no_folder without @words");
     }
     None
 }
@@ -108,7 +111,7 @@ fn is_of_script(name: &str, rest: &str) -> bool {
     match name {
         "@text" | "@words" => true,
         "@want" => !rest.is_empty(),
-        "@reopened" => rest.is_empty(),
+        "@reopened" | "@no_folder" => rest.is_empty(),
         "@repeat" | "@wants" => at_least(cut(rest).0, 1) && !cut(rest).1.is_empty(),
         "@ends" => status_named(rest).is_some(),
         _ => false,

@@ -15,7 +15,8 @@
 //!     @wants COUNT REPLY      so many of them, with the number of the turn, from 1, for each %
 //!     @ends STATUS            the status that has to come, by its name; without it Done
 //!     @reopened               from here on `reopen` is played behind each of these, and has to tell the version held
-//!     @words WORDS            the words of the top call; without it the script is played
+//!     @words WORDS            the words of the program; without it the script is played
+//!     @no_folder              the folder of the words can't be opened
 //!     @limit NAME N           a limit of the base by its name, `log_bytes`; not beside @words
 //!     @minutes N              the clock
 //!     @pieces N               the most bytes of one take of the source; without it 1000
@@ -33,7 +34,7 @@
 //!     @stops N                the script alone with a stop before each call, after 0 to N - 1 of them
 //!     @starts A..B N          stops after A to B - 1 calls, then starts that are stopped after 0 to N - 1 calls
 //!
-//! Files are named base0, base1, log0, log1 and arch; statuses Done, Usage, SourceFault, SinkFault, DiskFault, Memory,
+//! Files are named base0, base1, log0, log1 and arch; statuses Done, NoFolder, Usage, SourceFault, SinkFault, DiskFault, Memory,
 //! NotABase and TooLong. A stop leaves by choice 0 what was safe, by 1 all that was written, and by 2 each file as long as
 //! it was, with 1 for each byte that wasn't safe. What is played and wanted, `@reopened` and `@fails_here` hold from their
 //! place on, and all other directives for their whole run, wherever they stand in it. `@call_fails`, `@fails_here` and

@@ -68,7 +68,7 @@ fn limits_of(run: &str) -> Limits {
 pub fn log_bytes(text: &str) -> Option<Limits> {
     let log_bytes = number(behind(text, "log_bytes")?)?;
     if log_bytes <= 268_435_456 {
-        Some(Limits { log_bytes })
+        Some(Limits::standard().with_log_bytes(log_bytes))
     } else {
         None
     }

@@ -6,13 +6,12 @@ use crate::script::Script;
 use crate::verdict::status_differs;
 use crate::version::last_version;
 use sea_disk::{Fuse, MemDisk};
-use sea_drive::Status;
 use std::alloc::{AllocError, Global};
 
 // What one run of a sweep leaves.
 #[derive(Drop)]
 struct Left {
-    status: Status,
+    status: u8,
     // The version that was acknowledged last.
     version: u64,
     disk: MemDisk,
@@ -102,7 +101,7 @@ fn stops_differ(
 fn last_differs(
     alloc: Global,
     run: &str,
-    status: Option<Status>,
+    status: Option<u8>,
 ) -> Result<Option<String>, AllocError> {
     let Some(status) = status else {
         let what = format!(in alloc; "the sweep has no run")?;
@@ -168,7 +167,7 @@ fn is_kept(found: Option<u64>, version: u64) -> bool {
 // The version that a start finds on a disk, or none where it ends otherwise than well.
 fn found(alloc: Global, run: &str, disk: MemDisk) -> Result<Option<u64>, AllocError> {
     let (ended, _disk) = carried(alloc, run, b"reopen\n", disk)?;
-    if ended.status != Status::Done || ended.written.is_empty() {
+    if ended.status != 0 || ended.written.is_empty() {
         return Ok(None);
     }
     Ok(Some(last_version(ended.replies(), 0)))
@@ -182,7 +181,7 @@ fn starts_differ(
 ) -> Result<Option<String>, AllocError> {
     for calls in span.0..span.1 {
         let left = stopped(alloc, run, lines, calls)?;
-        if left.status == Status::Done {
+        if left.status == 0 {
             let what = format!(in alloc; "a stop after {calls} calls is never met")?;
             return Ok(Some(what));
         }

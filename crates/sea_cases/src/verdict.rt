@@ -7,26 +7,27 @@ use sea_drive::Status;
 use std::alloc::{AllocError, Global};
 use std::str;
 
-/// The status of a name.
-pub fn status_named(name: &str) -> Option<Status> {
+/// The exit status of a name.
+pub fn status_named(name: &str) -> Option<u8> {
     match name {
-        "Done" => Some(Status::Done),
-        "Usage" => Some(Status::Usage),
-        "SourceFault" => Some(Status::SourceFault),
-        "SinkFault" => Some(Status::SinkFault),
-        "DiskFault" => Some(Status::DiskFault),
-        "Memory" => Some(Status::Memory),
-        "NotABase" => Some(Status::NotABase),
-        "TooLong" => Some(Status::TooLong),
+        "NoFolder" => Some(1),
+        "Done" => Some(Status::Done.code()),
+        "Usage" => Some(Status::Usage.code()),
+        "SourceFault" => Some(Status::SourceFault.code()),
+        "SinkFault" => Some(Status::SinkFault.code()),
+        "DiskFault" => Some(Status::DiskFault.code()),
+        "Memory" => Some(Status::Memory.code()),
+        "NotABase" => Some(Status::NotABase.code()),
+        "TooLong" => Some(Status::TooLong.code()),
         _ => None,
     }
 }
 
-// The status that a run wants.
-fn wanted_status(run: &str) -> Status {
+// The exit status that a run wants.
+fn wanted_status(run: &str) -> u8 {
     match first(run, "@ends").and_then(status_named) {
         Some(status) => status,
-        None => Status::Done,
+        None => 0,
     }
 }
 
@@ -49,16 +50,12 @@ pub fn differs(
 }
 
 /// What differs from the status that a run wants.
-pub fn status_differs(
-    alloc: Global,
-    run: &str,
-    came: Status,
-) -> Result<Option<String>, AllocError> {
+pub fn status_differs(alloc: Global, run: &str, came: u8) -> Result<Option<String>, AllocError> {
     let wanted = wanted_status(run);
     if came == wanted {
         return Ok(None);
     }
-    let what = format!(in alloc; "status {came:?} came, wanted {wanted:?}")?;
+    let what = format!(in alloc; "status {came} came, wanted {wanted}")?;
     Ok(Some(what))
 }
 

@@ -47,6 +47,10 @@ closed_at bytes payloads end gate (inl closed) = closed
 closed_at bytes payloads end (inl long) (inr short) = absurd (omega (arith, short.short))
 closed_at bytes payloads end (inr closed) (inr short) = subst (λ it. IsClosedAt bytes it end) (sym short.none) (subst (λ it. IsClosedAt bytes [] it) (sym short.place) closed)
 
+-- its closed gate is the first one where it holds no record
+closed_first : (bytes : List ℕ) (end : ℕ) → IsClosedAt bytes [] end → IsClosedAt bytes [] 0
+closed_first bytes end closed = subst (IsClosedAt bytes []) closed.place closed
+
 -- ---- the base
 
 -- the files stand for the base that their log makes
@@ -59,11 +63,11 @@ stands_for_none unique files payloads end holds none base stands =
     none base (subst (λ it. Makes it base) (unique (files Log0) stands.payloads payloads stands.log.0 end stands.log.1 holds).0 stands.makes)
 
 -- a settled disk whose files stand for a base, and whose log ends at a closed gate, is ready for the next record
-pub is_ready : (old new : Shown) (payloads : List (List ℕ)) (end : ℕ) (base : Plain) → IsAllSettled old → Rests old new → AreClosed old.seen → HoldsList [] (old.seen Log1) → HasGate (old.seen Log0) → IsLog (old.seen Log0) payloads end → Makes payloads base → IsReady new base end
-is_ready old new payloads end base settled rests closed empty gate holds makes = record {
+pub is_ready : (old new : Shown) (payloads : List (List ℕ)) (end : ℕ) (base : Plain) → IsAllSettled old → Rests old new → AreClosed old.seen → HoldsList [] (old.seen Log1) → HasGate (old.seen Log0) → HasGate (old.seen Log1) → IsLog (old.seen Log0) payloads end → Makes payloads base → IsReady new base end
+is_ready old new payloads end base settled rests closed empty gate second holds makes = record {
   base0 = λ bytes image. subst IsClosedBase (sym (settled Base0 bytes (rests.image Base0 bytes image))) closed.0;
   base1 = λ bytes image. subst IsClosedBase (sym (settled Base1 bytes (rests.image Base1 bytes image))) closed.1;
-  second = λ bytes image. subst (HoldsList []) (sym (settled Log1 bytes (rests.image Log1 bytes image))) empty;
+  second = λ bytes image. subst (λ it. IsClosedAt it [] 0) (sym (settled Log1 bytes (rests.image Log1 bytes image))) (closed_first (old.seen Log1) empty.0 (closed_at (old.seen Log1) [] empty.0 second empty.1));
   payloads = payloads;
   log = λ bytes image. subst (λ it. IsClosedAt it payloads end) (sym (settled Log0 bytes (rests.image Log0 bytes image))) (closed_at (old.seen Log0) payloads end gate holds);
   makes = makes;

@@ -1,12 +1,14 @@
 -- Laying the gates that are missing.
-use Rattle.std.proofs.Common.{◌≡◌, ◌≢◌, ℕ, ◌+◌, ◌-◌, ◌<◌, ◌≤◌, List, [], ◌∷◌, ◌++◌, length, take, drop, replicate, refl, sym, ◌∙◌, ap, subst, inl, inr, arith}
+use Rattle.std.proofs.Common.{◌≡◌, ◌≢◌, ℕ, ◌-◌, ◌<◌, ◌≤◌, nat_lt, List, [], ◌∷◌, length, drop, true, false, if◌then◌else◌, refl, sym, ◌∙◌, ap, subst, inl, inr, arith}
+use Rattle.std.proofs.lemmas.Bool.Decides.{nat_tests}
+use Rattle.std.proofs.lemmas.Bool.{cases_lt}
 use Rattle.sea_disk.specs.declared.file.File.{File}
 use Rattle.sea_disk.specs.declared.file.File.TheVariants.{Base0, Base1, Log0, Log1, Arch}
 use Rattle.sea_disk.specs.Shown.{Shown, IsDisk, IsSettled}
-use Rattle.sea_disk.specs.Calls.{overlaid, Torn, After, Rests}
+use Rattle.sea_disk.specs.Calls.{overlaid, Torn, After}
 use Rattle.sea_disk.specs.Runs.{Works}
-use Rattle.sea_log.specs.Records.{HoldsList}
-use Rattle.sea_core.specs.Gates.{HasGate, HasBaseGate, AreGatesLaid}
+use Rattle.sea_log.specs.Records.{HoldsList, IsClosedAt}
+use Rattle.sea_core.specs.Gates.{HasGate, with_first_byte}
 use Rattle.sea_core.specs.Stands.{IsClosedBase}
 use Rattle.sea_core.specs.Steps.{Keeps, IsAllSettled, IsBaseFile, IsLogFile}
 use Rattle.sea_core.proofs.Standing.{HoldsOneList}
@@ -47,27 +49,67 @@ laid_front old =
     let no_gap : 0 - length old ≡ 0 = omega arith in
     rw (no_gap) refl
 
--- the gate is laid
-pub base_gate_laid : (old new : List ℕ) → new ≡ overlaid old 0 (0 ∷ []) → HasBaseGate new
-base_gate_laid old new same = subst HasBaseGate (sym (same ∙ laid_front old)) (inr (omega arith, refl))
+-- ---- what is laid
 
--- reads leave the gates
-pub gates_rest : {old new : Shown} → Rests old new → AreGatesLaid old.seen → AreGatesLaid new.seen
-gates_rest rests gates = record {
-  base0 = subst HasBaseGate (sym (rests.seen Base0)) gates.base0;
-  base1 = subst HasBaseGate (sym (rests.seen Base1)) gates.base1;
-  log0 = subst HasGate (sym (rests.seen Log0)) gates.log0;
-  log1 = subst HasGate (sym (rests.seen Log1)) gates.log1;
-}
+-- a file that is long enough stays
+pub long_stays : (shortest : ℕ) (old now : List ℕ) → shortest ≤ length old → now ≡ old → now ≡ with_first_byte shortest old
+long_stays shortest old now long same =
+    let test : nat_lt (length old) shortest ≡ false = grind (arith, nat_tests, long) in
+    same ∙ ap (λ it. if it then overlaid old 0 (0 ∷ []) else old) (sym test)
 
--- a base file is no log
-pub base_is_not_log0 : {file : File} → IsBaseFile file → file ≢ Log0
-base_is_not_log0 (inl base) is = cc (base, is)
-base_is_not_log0 (inr base) is = cc (base, is)
+-- a short one has its front laid
+pub short_is_laid : (shortest : ℕ) (old mid now : List ℕ) → length old < shortest → mid ≡ old → now ≡ overlaid mid 0 (0 ∷ []) → now ≡ with_first_byte shortest old
+short_is_laid shortest old mid now short same laid =
+    let test : nat_lt (length old) shortest ≡ true = grind (arith, nat_tests, short) in
+    laid ∙ ap (λ it. overlaid it 0 (0 ∷ [])) same ∙ ap (λ it. if it then overlaid old 0 (0 ∷ []) else old) (sym test)
 
-pub base_is_not_log1 : {file : File} → IsBaseFile file → file ≢ Log1
-base_is_not_log1 (inl base) is = cc (base, is)
-base_is_not_log1 (inr base) is = cc (base, is)
+-- a log whose front was laid, if it was short, has its gate
+pub has_gate : (old now : List ℕ) → now ≡ with_first_byte 6 old → HasGate now
+has_gate old now laid = subst HasGate (sym laid) (elim (cases_lt (length old) 6) [ inl short ↦ of_short short | inr long ↦ of_long long ])
+  where
+    of_short : length old < 6 → HasGate (with_first_byte 6 old)
+    of_short short =
+        let test : nat_lt (length old) 6 ≡ true = grind (arith, nat_tests, short) in
+        subst HasGate (ap (λ it. if it then overlaid old 0 (0 ∷ []) else old) (sym test)) (inr (subst (λ it. IsClosedAt it [] 0) (sym (laid_front old)) (record { gate = 0; rest = drop 1 old; split = refl; closed = λ e. cc; place = refl; lengths = tt })))
+
+    of_long : 6 ≤ length old → HasGate (with_first_byte 6 old)
+    of_long long =
+        let test : nat_lt (length old) 6 ≡ false = grind (arith, nat_tests, long) in
+        subst HasGate (ap (λ it. if it then overlaid old 0 (0 ∷ []) else old) (sym test)) (inl long)
+
+-- a file is a base file, a log or `arch`
+pub of_each : (P : File → Type 0) → ((file : File) → IsBaseFile file → P file) → ((file : File) → IsLogFile file → P file) → P Arch → (file : File) → P file
+of_each P bases logs arch Base0 = bases Base0 (inl refl)
+of_each P bases logs arch Base1 = bases Base1 (inr refl)
+of_each P bases logs arch Log0 = logs Log0 (inl refl)
+of_each P bases logs arch Log1 = logs Log1 (inr refl)
+of_each P bases logs arch Arch = arch
+
+pub log_is_no_base : (file : File) → IsLogFile file → ¬ IsBaseFile file
+log_is_no_base file (inl log) (inl base) = cc (log, base)
+log_is_no_base file (inl log) (inr base) = cc (log, base)
+log_is_no_base file (inr log) (inl base) = cc (log, base)
+log_is_no_base file (inr log) (inr base) = cc (log, base)
+
+pub base_is_no_log : (file : File) → IsBaseFile file → ¬ IsLogFile file
+base_is_no_log file base log = log_is_no_base file log base
+
+pub arch_is_no_base : ¬ IsBaseFile Arch
+arch_is_no_base (inl is) = cc
+arch_is_no_base (inr is) = cc
+
+pub arch_is_no_log : ¬ IsLogFile Arch
+arch_is_no_log (inl is) = cc
+arch_is_no_log (inr is) = cc
+
+-- what holds of two files holds of each of their kind
+pub each_base : (P : File → Type 0) → P Base0 → P Base1 → (file : File) → IsBaseFile file → P file
+each_base P one other file (inl is) = subst P (sym is) one
+each_base P one other file (inr is) = subst P (sym is) other
+
+pub each_log : (P : File → Type 0) → P Log0 → P Log1 → (file : File) → IsLogFile file → P file
+each_log P one other file (inl is) = subst P (sym is) one
+each_log P one other file (inr is) = subst P (sym is) other
 
 -- ---- logs
 

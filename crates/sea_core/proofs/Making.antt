@@ -1,5 +1,5 @@
 -- What payloads make, record by record, and one record more.
-use Rattle.std.proofs.Common.{◌≡◌, ◌≢◌, ℕ, suc, ◌+◌, ◌<◌, ◌≤◌, List, [], ◌∷◌, ◌++◌, length, get_or, drop, add-one, Option, Some, None, Result, Ok, Err, IsErr, refl, sym, ap, ◌∙◌, subst}
+use Rattle.std.proofs.Common.{◌≡◌, ◌≢◌, ℕ, suc, ◌+◌, ◌<◌, ◌≤◌, ◌^◌, nat_lt, true, if◌then◌else◌, inl, inr, arith, List, [], ◌∷◌, ◌++◌, length, get_or, drop, add-one, Option, Some, None, Result, Ok, Err, IsErr, refl, sym, ap, ◌∙◌, subst}
 use Rattle.std.proofs.Math.Seq.{drop-cons}
 use Rattle.std.proofs.lemmas.List.{drop_all}
 use Rattle.sea_cell.specs.declared.keys.Moment.{Moment}
@@ -9,7 +9,11 @@ use Rattle.sea_operation.specs.declared.operation.Op.{Op}
 use Rattle.sea_operation.specs.declared.refusal.OpRefusal.{OpRefusal}
 use Rattle.sea_operation.specs.Base.{empty_base}
 use Rattle.sea_operation.specs.Apply.{applied, apply, unless_refused, after_result, after_from}
-use Rattle.sea_operation.specs.Refusal.{refusal_of}
+use Rattle.sea_operation.specs.Refusal.{refusal_of, or_else, spent}
+use Rattle.sea_operation.specs.declared.refusal.Counter.TheVariants as counter
+use Rattle.sea_operation.specs.declared.refusal.OpRefusal.TheVariants as refusal_of_op
+use Rattle.std.proofs.lemmas.Bool.{cases_lt}
+use Rattle.std.proofs.lemmas.Bool.Decides.{nat_tests}
 use Rattle.sea_record.specs.Record.{IsRecord}
 use Rattle.sea_core.specs.Stands.{AreRecords, Makes}
 use Rattle.sea_core.specs.Taking.{TakesRecord}
@@ -30,8 +34,34 @@ version_rises base next entry same =
     let made = not_refused (refusal_of base entry.moment entry.op) (applied base entry.moment entry.op) next same in
     ap (λ (it : Plain). it.version) (sym made) ∙ applied-version base entry.moment entry.op
 
+-- what is taken isn't refused
+taken_unrefused : (refusal : Option OpRefusal) (base next : Plain) → unless_refused refusal base ≡ Ok next → refusal ≡ None
+taken_unrefused None base next same = refl
+taken_unrefused (Some refusal) base next same = absurd (cc)
+
+first_none : {X : Type 0} (first later : Option X) → or_else first later ≡ None → first ≡ None
+first_none None later none = refl
+first_none (Some x) later none = absurd (cc)
+
+-- a version that isn't spent
+unspent : (version : ℕ) → spent counter.Version version 1 (2 ^ 62) ≡ None → version + 1 ≤ 2 ^ 62
+unspent version none = elim (cases_lt (2 ^ 62) (version + 1)) [ inl large ↦ absurd (is_spent large) | inr small ↦ small ]
+  where
+    is_spent : 2 ^ 62 < version + 1 → ⊥
+    is_spent large =
+        let test : nat_lt (2 ^ 62) (version + 1) ≡ true = grind (arith, nat_tests, large) in
+        let some : (if true then Some (refusal_of_op.NumbersSpent counter.Version) else None) ≡ None = ap (λ it. if it then Some (refusal_of_op.NumbersSpent counter.Version) else None) (sym test) ∙ none in
+        cc
+
+-- no base is made of a version above 2^62
+pub version_within : (base next : Plain) (entry : Entry) → apply base entry ≡ Ok next → next.version ≤ 2 ^ 62
+version_within base next entry same =
+    let none = taken_unrefused (refusal_of base entry.moment entry.op) (applied base entry.moment entry.op) next same in
+    let numbers = first_none _ _ (first_none _ _ none) in
+    omega (arith, version_rises base next entry same, unspent base.version (first_none _ _ numbers))
+
 -- where all entries are taken, the first one is
-first_is_taken : (rest : Plain → Result Plain (ℕ × OpRefusal)) (count : ℕ) (made : Result Plain OpRefusal) (final : Plain) → after_result rest count made ≡ Ok final → (next : Plain) × (made ≡ Ok next) × (rest next ≡ Ok final)
+pub first_is_taken : (rest : Plain → Result Plain (ℕ × OpRefusal)) (count : ℕ) (made : Result Plain OpRefusal) (final : Plain) → after_result rest count made ≡ Ok final → (next : Plain) × (made ≡ Ok next) × (rest next ≡ Ok final)
 first_is_taken rest count (Ok next) final same = (next, refl, same)
 first_is_taken rest count (Err refusal) final same = cc
 
@@ -168,3 +198,14 @@ replayed_bad payloads base payload rest replayed none final makes =
 pub replayed_all : (payloads : List (List ℕ)) (base : Plain) (at : ℕ) → length payloads ≤ at → IsReplayed payloads base (drop at payloads) → Makes payloads base
 replayed_all payloads base at past replayed =
     from_makes payloads base (replayed.back base (subst (λ rest. MakesFrom base rest base) (sym (drop_all at payloads past)) refl))
+
+-- ---- the version of what is made
+
+after_within : (count : ℕ) (base : Plain) (entries : List Entry) (final : Plain) → base.version ≤ 2 ^ 62 → after_from count base entries ≡ Ok final → final.version ≤ 2 ^ 62
+after_within count base [] final small same = let is : base ≡ final = cc in subst (λ (it : Plain). it.version ≤ 2 ^ 62) is small
+after_within count base (entry ∷ entries) final small same =
+    let first = first_is_taken (λ next. after_from (count + 1) next entries) count (apply base entry) final same in
+    after_within (count + 1) first.0 entries final (version_within base first.0 entry first.1) first.2
+
+pub made_within : (payloads : List (List ℕ)) (base : Plain) → Makes payloads base → base.version ≤ 2 ^ 62
+made_within payloads base makes = after_within 0 empty_base makes.entries base (omega arith) makes.taken

@@ -1,35 +1,50 @@
 -- What an edit answers, and what it makes of a core.
-use Rattle.std.specs.Prelude.{◌≡◌, ℕ, ◌+◌, ◌<◌, ◌≤◌, [], ◌∷◌, ◌++◌, Some, None, Result, Ok, Err, IsOk}
+use Rattle.std.specs.Prelude.{◌≡◌, ℕ, ◌+◌, [], ◌∷◌, ◌++◌, length, nat_lt, if◌then◌else◌, Option, Some, None, Result, Ok, Err}
 use Rattle.sea_log.specs.Records.{size_with}
-use Rattle.sea_record.specs.Record.{record_of}
+use Rattle.sea_operation.specs.declared.base.Plain.{Plain}
 use Rattle.sea_operation.specs.declared.operation.Entry.{Entry}
+use Rattle.sea_operation.specs.declared.refusal.OpRefusal.{OpRefusal}
 use Rattle.sea_operation.specs.Apply.{apply}
-use Rattle.sea_core.specs.declared.kept.Core.{Core}
-use Rattle.sea_core.specs.declared.kept.Doubt.{Doubt}
 use Rattle.sea_core.specs.declared.fault.CoreFault.{CoreFault}
-use Rattle.sea_core.specs.declared.fault.CoreFault.TheVariants.{Memory, Op, BaseFailed, LogFull, DiskFault, FeedGone, FeedAhead}
+use Rattle.sea_core.specs.declared.fault.CoreFault.TheVariants.{Memory, Op, BaseFailed, LogFull, DiskFault}
+use Rattle.sea_core.specs.State.{CoreState, next_record}
 
 -- how many bytes the log would have with the record of an entry
-abbrev pub size_after : {D : Type 0} → Core D → Entry → ℕ
-size_after core entry = size_with core.end (record_of (core.base.version + 1) entry)
+abbrev pub size_after : {D : Type 0} → CoreState D → Entry → ℕ
+size_after core entry = size_with core.log_end (next_record core entry)
 
--- Each answer has its cause, in this order: a base that failed, the first refusal of the operation, a log that would be
--- too large, and a fault of the disk. An accepted entry ends the history. What is refused changes nothing; after a fault
--- of the disk the base and its history are what they were and the entry is in doubt. Want of memory may come in place of
--- any answer, and then nothing was touched.
-abbrev pub Edited : {D : Type 0} → Core D → Core D → Entry → Result ℕ CoreFault → Type 0
+-- The first cause to refuse an entry: a base that failed, the first refusal of the operation, a log that would have more
+-- bytes than it may.
+abbrev pub first_of_causes : Option ℕ → Result Plain OpRefusal → ℕ → ℕ → Option CoreFault
+first_of_causes (Some count) made most size = Some (BaseFailed count)
+first_of_causes None (Err refusal) most size = Some (Op refusal)
+first_of_causes None (Ok _) most size = if nat_lt most size then Some (LogFull size) else None
+
+-- the same of a core
+abbrev pub first_cause : {D : Type 0} → CoreState D → Entry → Option CoreFault
+first_cause core entry = first_of_causes core.failed (apply core.content entry) core.limits.log_bytes (size_after core entry)
+
+-- the state with an entry that was acknowledged, on this disk, where the base becomes this one
+abbrev pub with_entry : {D : Type 0} → CoreState D → Entry → D → Plain → CoreState D
+with_entry core entry disk next = record core {
+  disk = disk;
+  content = next;
+  history = core.history ++ entry ∷ [];
+  log_end = core.log_end + 5 + length (next_record core entry);
+}
+
+-- the state with an entry in doubt, on this disk, of which so many calls have failed
+abbrev pub with_doubt : {D : Type 0} → CoreState D → Entry → D → Option ℕ → CoreState D
+with_doubt core entry disk failed = record core { disk = disk; doubt = Some entry; failed = failed }
+
+-- Each answer has its cause. An accepted entry ends the history. What is refused changes nothing; after a fault of the
+-- disk, which comes where no cause refuses the entry, the entry is in doubt and the base has failed. Want of memory may
+-- come in place of any answer, and then nothing was touched.
+abbrev pub Edited : {D : Type 0} → CoreState D → CoreState D → Entry → Result ℕ CoreFault → Type 0
 Edited old new entry (Ok version) =
-    (old.doubt ≡ None) × (apply old.base entry ≡ Ok new.base) × (size_after old entry ≤ old.limits.log_bytes)
-    × (version ≡ new.base.version) × (new.doubt ≡ None) × (new.limits ≡ old.limits)
-    × (new.history ≡ old.history ++ entry ∷ []) × (new.opening ≡ old.opening)
-Edited old new entry (Err (BaseFailed count)) = ((doubt : Doubt) × (old.doubt ≡ Some doubt) × (count ≡ doubt.count)) × (new ≡ old)
-Edited old new entry (Err (Op refusal)) = (old.doubt ≡ None) × (apply old.base entry ≡ Err refusal) × (new ≡ old)
-Edited old new entry (Err (LogFull size)) =
-    (old.doubt ≡ None) × IsOk (apply old.base entry) × (size ≡ size_after old entry) × (old.limits.log_bytes < size) × (new ≡ old)
+    (first_cause old entry ≡ None) × (apply old.content entry ≡ Ok new.content) × (version ≡ new.content.version)
+    × (new ≡ with_entry old entry new.disk new.content)
 Edited old new entry (Err DiskFault) =
-    (old.doubt ≡ None) × (size_after old entry ≤ old.limits.log_bytes) × (new.base ≡ old.base) × (new.limits ≡ old.limits)
-    × ((doubt : Doubt) × (new.doubt ≡ Some doubt) × (apply old.base entry ≡ Ok doubt.base))
-    × (new.history ≡ old.history) × (new.opening ≡ old.opening)
+    (first_cause old entry ≡ None) × (new ≡ with_doubt old entry new.disk new.failed)
 Edited old new entry (Err Memory) = new ≡ old
-Edited old new entry (Err (FeedGone _)) = ⊥
-Edited old new entry (Err (FeedAhead _)) = ⊥
+Edited old new entry (Err fault) = (first_cause old entry ≡ Some fault) × (new ≡ old)

@@ -1,9 +1,12 @@
+pub mod Additions
 pub mod Causes
 pub mod Edits
-pub mod Feeding
+pub mod Events
+pub mod Feeds
 pub mod Gates
-pub mod Keeping
+pub mod Limits
 pub mod Sound
 pub mod Stands
+pub mod State
 pub mod Steps
 pub mod Taking

@@ -6,19 +6,23 @@
 //! files stand for. `Core::feed` gives the entries that were accepted since the opening.
 #![tactic(auto)]
 
+mod addition;
+mod base;
+mod contents;
+mod event;
 mod fault;
-mod feeding;
-mod kept;
+mod feed;
+mod first_gates;
 mod laws;
 mod limits;
-mod preparing;
-mod reading;
-mod replaying;
-mod settling;
-mod start;
+mod preparation;
+mod recovery;
+mod replay;
+mod standard;
 
+pub use base::{Core, History};
+pub use event::{Event, Outcome};
 pub use fault::{CoreFault, StartFault};
-pub use feeding::{Feed, FeedEntries, FeedEntry};
-pub use kept::{Core, Doubt, History};
+pub use feed::Feed;
 pub use laws::{each_version_has_its_entry, one_base_at_most};
 pub use limits::Limits;

@@ -25,8 +25,8 @@ pub struct FolderDisk {
 }
 
 impl FolderDisk {
-    /// Opens the five files of a folder, and makes those that are absent. Their names are safe then: the folder is synced,
-    /// and the one that it lies in. No call has failed yet.
+    /// Opens the five files of a folder, and makes those that are absent. Their names are safe then: the folder is synced.
+    /// No call has failed yet.
     pub fn open<R: Files<File = OpenFile>>(
         rt: &R,
         alloc: Global,
@@ -44,7 +44,6 @@ impl FolderDisk {
             faults: Faults::none(),
         };
         sync_names(rt, folder)?;
-        sync_names(rt, format!(in alloc; "{folder}/..")?.as_str())?;
         Ok(disk)
     }
 
@@ -72,8 +71,8 @@ fn open_file<R: Files<File = OpenFile>>(
     options.open(rt, path.as_str())
 }
 
-// Makes safe which names a folder holds: a sync of a file is none of its name.
-fn sync_names<R: Files<File = OpenFile>>(rt: &R, folder: &str) -> io::Result<()> {
+/// Makes safe which names a folder holds: a sync of a file is none of its name.
+pub fn sync_names<R: Files<File = OpenFile>>(rt: &R, folder: &str) -> io::Result<()> {
     OpenFile::open(rt, folder)?.sync_all()
 }
 

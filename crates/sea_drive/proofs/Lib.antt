@@ -5,5 +5,6 @@ pub mod ReplyLaws
 pub mod Counts
 pub mod PlayLaws
 pub mod StandsLaws
-pub mod TurnLaws
+pub mod RoundLaws
 pub mod DumpLaws
+pub mod FeedLaws

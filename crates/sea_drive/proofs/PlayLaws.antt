@@ -5,7 +5,7 @@ use Rattle.std.proofs.lemmas.Grind.{flat_map-append}
 use Rattle.std.proofs.lemmas.List.Folds.{list_any-append}
 use Rattle.sea_lines.specs.Lines.{Place, TotalTold, KeepsTotal, TakesWithin}
 use Rattle.sea_drive.specs.Outcome.{is_disk_fault}
-use Rattle.sea_drive.specs.Play.{replies, met_want, met_fault}
+use Rattle.sea_drive.specs.Play.{replies, ran_out_of_memory, disk_failed}
 use Rattle.sea_drive.specs.Reply.{reply_line}
 use Rattle.sea_drive.specs.declared.outcome.LineOutcome.{LineOutcome}
 
@@ -19,11 +19,11 @@ or-false : (b : Bool) → (b || false) ≡ b
 or-false true = refl
 or-false false = refl
 
-pub met_want-push : (results : List (Option LineOutcome)) (result : Option LineOutcome) → met_want (results ++ result ∷ []) ≡ (met_want results || is_none result)
-met_want-push results result = list_any-append is_none results (result ∷ []) ∙ ap (λ (b : Bool). met_want results || b) (or-false (is_none result))
+pub ran_out_of_memory-push : (results : List (Option LineOutcome)) (result : Option LineOutcome) → ran_out_of_memory (results ++ result ∷ []) ≡ (ran_out_of_memory results || is_none result)
+ran_out_of_memory-push results result = list_any-append is_none results (result ∷ []) ∙ ap (λ (b : Bool). ran_out_of_memory results || b) (or-false (is_none result))
 
-pub met_fault-push : (results : List (Option LineOutcome)) (result : Option LineOutcome) → met_fault (results ++ result ∷ []) ≡ (met_fault results || is_disk_fault result)
-met_fault-push results result = list_any-append is_disk_fault results (result ∷ []) ∙ ap (λ (b : Bool). met_fault results || b) (or-false (is_disk_fault result))
+pub disk_failed-push : (results : List (Option LineOutcome)) (result : Option LineOutcome) → disk_failed (results ++ result ∷ []) ≡ (disk_failed results || is_disk_fault result)
+disk_failed-push results result = list_any-append is_disk_fault results (result ∷ []) ∙ ap (λ (b : Bool). disk_failed results || b) (or-false (is_disk_fault result))
 
 -- ---- where the script stands
 

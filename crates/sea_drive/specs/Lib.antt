@@ -4,11 +4,13 @@ pub mod Feeds
 pub mod Dumps
 pub mod Outcome
 pub mod Play
+pub mod Program
 pub mod Refused
 pub mod Reply
+pub mod Rounds
 pub mod Select
+pub mod Setting
 pub mod Status
 pub mod Steps
 pub mod Texts
-pub mod Turns
 pub mod Words

@@ -1,25 +1,27 @@
--- What a played script writes, what becomes of its disk, and where it ends. `told` and `shows` are of the disk, and `clock`
--- is what the clock tells.
-use Rattle.std.specs.Prelude.{◌≡◌, ◌⊎◌, ℕ, ◌≤◌, ℤ, List, [], ◌∷◌, ◌++◌, length, take, flat_map, All, Bool, true, false, if◌then◌else◌, is_none, Option, Some, None, IfSome}
+-- What a played script writes, what becomes of its disk, and where it ends.
+use Rattle.std.specs.Prelude.{◌≡◌, ◌⊎◌, ℕ, ◌≤◌, List, [], ◌∷◌, ◌++◌, length, take, flat_map, All, Bool, true, false, if◌then◌else◌, is_none, Option, Some, None, IfSome}
 use Rattle.std.specs.List.{list_any}
 use Rattle.std.specs.Io.KnownBytes.{Appends, IsAtEnd}
 use Rattle.sea_faults.specs.Counts.{Rose}
 use Rattle.sea_disk.specs.Shown.{Files, Shown}
 use Rattle.sea_disk.specs.Runs.{Leaves}
-use Rattle.sea_core.specs.declared.kept.Core.{Core}
 use Rattle.sea_core.specs.declared.limits.Limits.{Limits}
 use Rattle.sea_core.specs.declared.fault.StartFault.{StartFault}
 use Rattle.sea_core.specs.declared.fault.StartFault.TheVariants as start
+use Rattle.sea_core.specs.Events.{Starts, Refuses}
 use Rattle.sea_core.specs.Sound.{IsSound, StandsForCore}
+use Rattle.sea_core.specs.State.{CoreState, Known}
 use Rattle.sea_core.specs.Stands.{KeepsStanding}
 use Rattle.sea_lines.specs.Lines.{Place, lines_of, line_limit, IsWithinLimits, PassesLimit, HasRead, HasReadTo, BreaksOff}
 use Rattle.sea_drive.specs.Outcome.{start_outcome, is_disk_fault}
 use Rattle.sea_drive.specs.Reply.{reply_line}
-use Rattle.sea_drive.specs.Steps.{Starts, Refuses, LineStep}
+use Rattle.sea_drive.specs.Setting.{Setting, Tape}
+use Rattle.sea_drive.specs.Steps.{LineStep}
 use Rattle.sea_drive.specs.declared.line.Played.TheVariants.{On, Refused}
 use Rattle.sea_drive.specs.declared.outcome.LineOutcome.{LineOutcome}
 use Rattle.sea_lines.specs.declared.reader.ReadFault.{ReadFault}
 use Rattle.sea_lines.specs.declared.reader.ReadFault.TheVariants as fault
+use Rattle.sea_drive.specs.declared.round.Player.{Player}
 use Rattle.sea_drive.specs.declared.status.Status.{Status}
 use Rattle.sea_drive.specs.declared.status.Status.TheVariants.{Done, Usage, SourceFault, SinkFault, DiskFault, Memory, NotABase, TooLong}
 
@@ -27,26 +29,26 @@ use Rattle.sea_drive.specs.declared.status.Status.TheVariants.{Done, Usage, Sour
 abbrev pub replies : List (Option LineOutcome) → List ℕ
 replies results = flat_map reply_line results
 
--- some line met want of memory
-abbrev pub met_want : List (Option LineOutcome) → Bool
-met_want results = list_any is_none results
+-- some line ran out of memory
+abbrev pub ran_out_of_memory : List (Option LineOutcome) → Bool
+ran_out_of_memory results = list_any is_none results
 
--- some line met a fault of the disk
-abbrev pub met_fault : List (Option LineOutcome) → Bool
-met_fault results = list_any is_disk_fault results
+-- in some line the disk failed
+abbrev pub disk_failed : List (Option LineOutcome) → Bool
+disk_failed results = list_any is_disk_fault results
 
 -- ---- lines that are played one after another
 
 -- the last of some cores, or the first where there are no more
-abbrev pub last_core : {D : Type 0} → Core D → List (Core D) → Core D
+abbrev pub last_core : {D : Type 0} → CoreState D → List (CoreState D) → CoreState D
 last_core first [] = first
 last_core first (core ∷ cores) = last_core core cores
 
 -- each line is played on the core that the one before it left
-abbrev pub Run : {D : Type 0} → Option ℤ → Type 0 → (D → Shown) → Core D → List (List ℕ) → List (Option LineOutcome) → List (Core D) → Type 0
-Run clock told shows core [] [] [] = Unit {0}
-Run clock told shows core (line ∷ lines) (result ∷ results) (next ∷ cores) = LineStep clock told shows core line (On result next) × Run clock told shows next lines results cores
-Run clock told shows core _ _ _ = ⊥
+abbrev pub Run : {D : Type 0} → Setting D → CoreState D → List (List ℕ) → List (Option LineOutcome) → List (CoreState D) → Type 0
+Run set core [] [] [] = Unit {0}
+Run set core (line ∷ lines) (result ∷ results) (next ∷ cores) = LineStep set core line (On result next) × Run set next lines results cores
+Run set core _ _ _ = ⊥
 
 -- A script as far as it was played: its lines, those behind them, what came of each, the core before the first line and
 -- the one after each, and the fault of the reopening that ended it, where one did.
@@ -54,63 +56,64 @@ pub record Script (D : Type 0) : Type 0 where
   pub lines : List (List ℕ)
   pub more : List (List ℕ)
   pub results : List (Option LineOutcome)
-  pub first : Core D
-  pub cores : List (Core D)
+  pub first : CoreState D
+  pub cores : List (CoreState D)
   pub refusal : Option StartFault
 
 -- The disk that a script leaves: that of the last core; or, where a reopening was refused in its last line, what that
 -- start left of it.
-abbrev pub RunsTo : {D : Type 0} → Option ℤ → Type 0 → (D → Shown) → Script D → D → Option StartFault → Type 0
-RunsTo clock told shows script back None =
-    Run clock told shows script.first script.lines script.results script.cores × (back ≡ (last_core script.first script.cores).disk)
-RunsTo clock told shows script back (Some fault) =
+abbrev pub RunsTo : {D : Type 0} → Setting D → Script D → D → Option StartFault → Type 0
+RunsTo set script back None =
+    Run set script.first script.lines script.results script.cores × (back ≡ (last_core script.first script.cores).disk)
+RunsTo set script back (Some fault) =
     (lines : List (List ℕ)) × (line : List ℕ) × (results : List (Option LineOutcome)) × (script.lines ≡ lines ++ line ∷ []) × (script.results ≡ results ++ start_outcome fault ∷ [])
-    × Run clock told shows script.first lines results script.cores
-    × LineStep clock told shows (last_core script.first script.cores) line (Refused fault back)
+    × Run set script.first lines results script.cores
+    × LineStep set (last_core script.first script.cores) line (Refused fault back)
 
 -- files that stand for what one of some cores stands for
-abbrev pub StandsForSome : {D : Type 0} → Core D → List (Core D) → Files → Type 0
+abbrev pub StandsForSome : {D : Type 0} → CoreState D → List (CoreState D) → Files → Type 0
 StandsForSome first [] files = StandsForCore first files
 StandsForSome first (core ∷ cores) files = StandsForCore first files ⊎ StandsForSome core cores files
 
 -- files that stand for what the disk's files stood for, or for what one of the script's cores stands for
-abbrev pub StandsInScript : {D : Type 0} → Shown → Core D → List (Core D) → Files → Type 0
+abbrev pub StandsInScript : {D : Type 0} → Shown → CoreState D → List (CoreState D) → Files → Type 0
 StandsInScript disk first cores files = KeepsStanding disk files ⊎ StandsForSome first cores files
 
--- The lines are the first of the input, where it is told, and the script begins with the core that was started from the
+-- The lines are the first of the input, where it is told, none of them passes its limit, and the script begins with the core that was started from the
 -- disk and leaves the disk that comes back. At each moment from before the start on, a stop leaves files that stand for
 -- what the disk's files stood for, or for what one of the script's cores stands for; and the last core is sound.
-pub record IsPlayed {D : Type 0} (clock : Option ℤ) (told : Type 0) (shows : D → Shown) (limits : Limits) (disk back : D) (input : Option (List ℕ)) (script : Script D) : Type 0 where
+pub record IsPlayed {D : Type 0} (set : Setting D) (limits : Limits) (disk back : D) (input : Option (List ℕ)) (script : Script D) : Type 0 where
   pub split : IfSome input (λ bytes. lines_of bytes ≡ script.lines ++ script.more)
-  pub start : Starts told shows disk limits script.first
-  pub run : RunsTo clock told shows script back script.refusal
-  pub any_moment : told → Leaves (shows disk) (shows back) (StandsInScript (shows disk) script.first script.cores)
-  pub sound : told → IsSound shows (last_core script.first script.cores)
+  pub short : All (λ line. length line ≤ line_limit) script.lines
+  pub start : Starts set.disk disk limits script.first
+  pub run : RunsTo set script back script.refusal
+  pub any_moment : set.disk.told → Leaves (set.disk.shows disk) (set.disk.shows back) (StandsInScript (set.disk.shows disk) script.first script.cores)
+  pub sound : set.disk.told → IsSound set.disk.shows (last_core script.first script.cores)
 
 -- each reply was given, and nothing else
-abbrev pub IsWritten : {D : Type 0} → Option (List ℕ) → Option (List ℕ) → Script D → Type 0
-IsWritten taken given script = Appends taken given (replies script.results)
+abbrev pub IsWritten : {D : Type 0} → Tape → Script D → Type 0
+IsWritten tape script = Appends tape.taken tape.given (replies script.results)
 
--- a front of the replies was given that lacks at most the line of the last result, or its end
-pub record IsCut {D : Type 0} (taken given : Option (List ℕ)) (script : Script D) : Type 0 where
+-- a prefix of the replies was given that lacks at most the line of the last result, or its end
+pub record IsCut {D : Type 0} (tape : Tape) (script : Script D) : Type 0 where
   pub earlier : List (Option LineOutcome)
   pub final : List (Option LineOutcome)
   pub one : length final ≤ 1
   pub all : script.results ≡ earlier ++ final
   pub count : ℕ
-  pub written : Appends taken given (replies earlier ++ take count (replies final))
+  pub written : Appends tape.taken tape.given (replies earlier ++ take count (replies final))
 
 -- The input was played to its end, no reopening was refused, and the input passes neither limit.
-pub record IsFinished {D : Type 0} (input left taken given : Option (List ℕ)) (script : Script D) : Type 0 where
-  pub ended : IfSome input (λ _. IsAtEnd left)
-  pub whole : IfSome input (λ _. script.more ≡ [])
-  pub within : IfSome input IsWithinLimits
+pub record IsFinished {D : Type 0} (tape : Tape) (script : Script D) : Type 0 where
+  pub ended : IfSome tape.input (λ _. IsAtEnd tape.left)
+  pub whole : IfSome tape.input (λ _. script.more ≡ [])
+  pub within : IfSome tape.input IsWithinLimits
   pub reopened : script.refusal ≡ None
-  pub written : IsWritten taken given script
+  pub written : IsWritten tape script
 
 -- a reopening was refused so, which ended the script, and its line was written
-abbrev pub IsRefused : {D : Type 0} → StartFault → Option (List ℕ) → Option (List ℕ) → Script D → Type 0
-IsRefused fault taken given script = (script.refusal ≡ Some fault) × IsWritten taken given script
+abbrev pub IsRefused : {D : Type 0} → StartFault → Tape → Script D → Type 0
+IsRefused fault tape script = (script.refusal ≡ Some fault) × IsWritten tape script
 
 -- the next line passes its limit, or in it the input passes its own
 abbrev pub IsTooLong : {D : Type 0} → Option (List ℕ) → Script D → Type 0
@@ -121,17 +124,17 @@ abbrev pub IsBrokenOff : {D : Type 0} → Option (List ℕ) → Option (List ℕ
 IsBrokenOff input left script = IfSome input (λ bytes. (read : ℕ) × (rest : List ℕ) × HasRead bytes script.lines read rest × BreaksOff (Some rest) left)
 
 -- what a status says of the script
-abbrev pub SaysOf : {D : Type 0} → Status → Option (List ℕ) → Option (List ℕ) → Option (List ℕ) → Option (List ℕ) → Script D → Type 0
-SaysOf Done input left taken given script = IsFinished input left taken given script × (met_fault script.results ≡ false) × (met_want script.results ≡ false)
-SaysOf DiskFault input left taken given script = (IsFinished input left taken given script × (met_fault script.results ≡ true)) ⊎ IsRefused start.DiskFault taken given script
-SaysOf NotABase input left taken given script = IsRefused start.NotABase taken given script
-SaysOf Memory input left taken given script =
-    (IsFinished input left taken given script × (met_fault script.results ≡ false) × (met_want script.results ≡ true))
-    ⊎ (IsRefused start.Memory taken given script ⊎ IsCut taken given script)
-SaysOf SourceFault input left taken given script = IsWritten taken given script × (script.refusal ≡ None) × IsBrokenOff input left script
-SaysOf SinkFault input left taken given script = IsCut taken given script
-SaysOf TooLong input left taken given script = IsWritten taken given script × (script.refusal ≡ None) × IsTooLong input script
-SaysOf Usage input left taken given script = ⊥
+abbrev pub SaysOf : {D : Type 0} → Status → Tape → Script D → Type 0
+SaysOf Done tape script = IsFinished tape script × (disk_failed script.results ≡ false) × (ran_out_of_memory script.results ≡ false)
+SaysOf DiskFault tape script = (IsFinished tape script × (disk_failed script.results ≡ true)) ⊎ IsRefused start.DiskFault tape script
+SaysOf NotABase tape script = IsRefused start.NotABase tape script
+SaysOf Memory tape script =
+    (IsFinished tape script × (disk_failed script.results ≡ false) × (ran_out_of_memory script.results ≡ true))
+    ⊎ (IsRefused start.Memory tape script ⊎ IsCut tape script)
+SaysOf SourceFault tape script = IsWritten tape script × (script.refusal ≡ None) × IsBrokenOff tape.input tape.left script
+SaysOf SinkFault tape script = IsCut tape script
+SaysOf TooLong tape script = IsWritten tape script × (script.refusal ≡ None) × IsTooLong tape.input script
+SaysOf Usage tape script = ⊥
 
 -- the status of a refused start
 abbrev pub start_status : StartFault → Status
@@ -140,18 +143,18 @@ start_status start.DiskFault = DiskFault
 start_status start.NotABase = NotABase
 
 -- Where the first start is refused, nothing was written, and the status says why.
-pub record IsNotStarted {D : Type 0} (told : Type 0) (shows : D → Shown) (disk back : D) (taken given : Option (List ℕ)) (status : Status) : Type 0 where
+pub record IsNotStarted {D : Type 0} (known : Known D) (disk back : D) (taken given : Option (List ℕ)) (status : Status) : Type 0 where
   pub fault : StartFault
   pub says : status ≡ start_status fault
-  pub start : Refuses told shows disk fault back
+  pub start : Refuses known disk fault back
   pub nothing : Appends taken given []
 
 -- A script was played: the first lines of the input were, the replies were given, and the status says how it ended. Or it
 -- wasn't, since the first start was refused.
-abbrev pub Ends : {D : Type 0} → Status → Option ℤ → Type 0 → (D → Shown) → Limits → D → D → Option (List ℕ) → Option (List ℕ) → Option (List ℕ) → Option (List ℕ) → Type 0
-Ends {D = D} status clock told shows limits disk back input left taken given =
-    ((script : Script D) × IsPlayed clock told shows limits disk back input script × SaysOf status input left taken given script)
-    ⊎ IsNotStarted told shows disk back taken given status
+abbrev pub Ends : {D : Type 0} → Status → Setting D → Limits → D → D → Tape → Type 0
+Ends {D = D} status set limits disk back tape =
+    ((script : Script D) × IsPlayed set limits disk back tape.input script × SaysOf status tape script)
+    ⊎ IsNotStarted set.disk disk back tape.taken tape.given status
 
 -- a status that tells of a fault of the source, and one that tells of a fault of the sink
 abbrev pub is_source_fault : Status → Bool
@@ -173,23 +176,23 @@ pub record CountsDisk (status : Status) (before now : ℕ) : Type 0 where
 
 -- The script so far: its lines were read up to a place, each within its limit, all their replies were given, and the
 -- core is the one after the last of them.
-pub record Goes {D : Type 0} (clock : Option ℤ) (told : Type 0) (shows : D → Shown) (limits : Limits) (disk : D) (input : Option (List ℕ)) (place : Place) (core : Core D) (taken given : Option (List ℕ)) (wanted faulted : Bool) : Type 0 where
+pub record Goes {D : Type 0} (set : Setting D) (limits : Limits) (disk : D) (tape : Tape) (place : Place) (player : Player D) : Type 0 where
   pub lines : List (List ℕ)
   pub results : List (Option LineOutcome)
-  pub first : Core D
-  pub cores : List (Core D)
-  pub read : HasReadTo input lines place
+  pub first : CoreState D
+  pub cores : List (CoreState D)
+  pub read : HasReadTo tape.input lines place
   pub short : All (λ line. length line ≤ line_limit) lines
-  pub start : Starts told shows disk limits first
-  pub run : Run clock told shows first lines results cores
-  pub last : core ≡ last_core first cores
-  pub any_moment : told → Leaves (shows disk) (shows core.disk) (StandsInScript (shows disk) first cores)
-  pub sound : told → IsSound shows core
-  pub written : Appends taken given (replies results)
-  pub wants : wanted ≡ met_want results
-  pub faults : faulted ≡ met_fault results
+  pub start : Starts set.disk disk limits first
+  pub run : Run set first lines results cores
+  pub last : player.core ≡ last_core first cores
+  pub any_moment : set.disk.told → Leaves (set.disk.shows disk) (set.disk.shows player.core.disk) (StandsInScript (set.disk.shows disk) first cores)
+  pub sound : set.disk.told → IsSound set.disk.shows player.core
+  pub written : Appends tape.taken tape.given (replies results)
+  pub memory : player.ran_out_of_memory ≡ ran_out_of_memory results
+  pub faults : player.disk_failed ≡ disk_failed results
 
--- what was given of a piece: all of it, or, where the script ends there, some front of it or nothing
+-- what was given of a piece: all of it, or, where the script ends there, some prefix of it or nothing
 abbrev pub WritesPiece : Option Status → List ℕ → Option (List ℕ) → Option (List ℕ) → Type 0
 WritesPiece None piece old new = Appends old new piece
 WritesPiece (Some Memory) piece old new = Appends old new []
@@ -202,7 +205,7 @@ Writes status result old new = WritesPiece status (reply_line result) old new
 
 -- the status of a script whose lines were all played
 abbrev pub end_status : Bool → Bool → Status
-end_status wanted faulted = if faulted then DiskFault else (if wanted then Memory else Done)
+end_status out_of_memory disk_fault = if disk_fault then DiskFault else (if out_of_memory then Memory else Done)
 
 -- the status of a script whose next line can't be read
 abbrev pub fault_status : ReadFault → Status

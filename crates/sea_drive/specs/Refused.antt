@@ -1,4 +1,4 @@
--- What is shown of a refusal: an object with its name and its fields, with the members in byte order.
+-- The JSON of a refusal: an object with its name and its fields, with the members in byte order.
 use Rattle.std.specs.Prelude.{ℕ, List, codes}
 use Rattle.serde_json.specs.Data.{Data, number, unsigned, string, object, member, no_members}
 use Rattle.sea_cell.specs.declared.conversion.CellFault.{CellFault}
@@ -7,6 +7,8 @@ use Rattle.sea_operation.specs.declared.refusal.Counter.{Counter}
 use Rattle.sea_operation.specs.declared.refusal.Counter.TheVariants as counter
 use Rattle.sea_operation.specs.declared.refusal.OpRefusal.{OpRefusal}
 use Rattle.sea_operation.specs.declared.refusal.OpRefusal.TheVariants as refusal
+use Rattle.sea_core.specs.declared.fault.CoreFault.{CoreFault}
+use Rattle.sea_core.specs.declared.fault.CoreFault.TheVariants as core
 
 -- an object that names an error
 abbrev pub error_json : List ℕ → Data
@@ -42,7 +44,7 @@ fault_word fault.NotList = codes "NotList"
 fault_word fault.TooLong = codes "TooLong"
 fault_word fault.NoOption = codes "NoOption"
 
--- what is shown of a refusal
+-- the JSON of a refusal of an operation
 abbrev pub refusal_json : OpRefusal → Data
 refusal_json refusal.Memory = error_json (codes "Memory")
 refusal_json refusal.BadOperation = error_json (codes "BadOperation")
@@ -63,3 +65,17 @@ refusal_json (refusal.NotSelect column) = column_error column (codes "NotSelect"
 refusal_json (refusal.LinkExists id) = error_with_text (codes "LinkExists") (codes "id") id
 refusal_json (refusal.NoLink id) = error_with_text (codes "NoLink") (codes "id") id
 refusal_json (refusal.FirstColumn column) = column_error column (codes "FirstColumn")
+
+-- an error with a number behind it
+abbrev pub error_with_number : List ℕ → List ℕ → ℕ → Data
+error_with_number error field value = object (member (codes "error") (string error) (member field (number (unsigned value)) no_members))
+
+-- the JSON of what the core answers in place of what was asked for
+abbrev pub fault_json : CoreFault → Data
+fault_json core.Memory = error_json (codes "Memory")
+fault_json (core.Op why) = refusal_json why
+fault_json (core.BaseFailed count) = object (member (codes "count") (number (unsigned count)) (member (codes "error") (string (codes "BaseFailed")) no_members))
+fault_json (core.LogFull size) = error_with_number (codes "LogFull") (codes "size") size
+fault_json core.DiskFault = error_json (codes "DiskFault")
+fault_json (core.FeedGone opening) = error_with_number (codes "FeedGone") (codes "opening") opening
+fault_json (core.FeedAhead version) = error_with_number (codes "FeedAhead") (codes "version") version

@@ -1,14 +1,14 @@
 -- The line that is written for an outcome: compact JSON with its members in byte order, and a newline.
 use Rattle.std.specs.Prelude.{ℕ, List, [], ◌∷◌, ◌++◌, map, Option, Some, None, codes}
-use Rattle.serde_json.specs.Data.{Data, null, number, unsigned, string, array, object, member, no_members}
+use Rattle.serde_json.specs.Data.{Data, null, number, unsigned, array, object, member, no_members}
 use Rattle.serde_json.specs.View.{items_of}
 use Rattle.serde_json.specs.Written.{compact_text}
 use Rattle.sea_cell.specs.Conversion.{json_of, texts_json}
 use Rattle.sea_cell.specs.declared.values.CellValue.{CellValue}
 use Rattle.sea_drive.specs.declared.outcome.LineOutcome.{LineOutcome}
-use Rattle.sea_drive.specs.declared.outcome.LineOutcome.TheVariants.{Silent, Version, Reopened, Rows, Fed, FeedGone, FeedAhead, Refusal, BaseFailed, LogFull, DiskFault, NotABase, BadLine, NotYet}
-use Rattle.sea_drive.specs.Fed.{feed_json, gone_json, ahead_json}
-use Rattle.sea_drive.specs.Refused.{error_json, refusal_json}
+use Rattle.sea_drive.specs.declared.outcome.LineOutcome.TheVariants.{Silent, Version, Reopened, Rows, Fed, Refused, NotABase, BadLine, NotYet}
+use Rattle.sea_drive.specs.Fed.{feed_json}
+use Rattle.sea_drive.specs.Refused.{error_json, fault_json}
 
 -- an array of the cells of a row
 abbrev pub row_json : List CellValue → Data
@@ -22,7 +22,7 @@ rows_json rows = array (items_of (map row_json rows))
 abbrev pub number_json : List ℕ → ℕ → Data
 number_json name value = object (member name (number (unsigned value)) no_members)
 
--- what is shown of an outcome
+-- the JSON of an outcome
 abbrev pub outcome_json : LineOutcome → Data
 outcome_json Silent = null
 outcome_json (Version version) = number_json (codes "version") version
@@ -30,12 +30,7 @@ outcome_json (Reopened version) = number_json (codes "reopened") version
 outcome_json (Rows answer) =
     object (member (codes "columns") (texts_json answer.columns) (member (codes "rows") (rows_json answer.rows) no_members))
 outcome_json (Fed feed) = feed_json feed
-outcome_json (FeedGone opening) = gone_json opening
-outcome_json (FeedAhead version) = ahead_json version
-outcome_json (Refusal refusal) = refusal_json refusal
-outcome_json (BaseFailed count) = object (member (codes "count") (number (unsigned count)) (member (codes "error") (string (codes "BaseFailed")) no_members))
-outcome_json (LogFull size) = object (member (codes "error") (string (codes "LogFull")) (member (codes "size") (number (unsigned size)) no_members))
-outcome_json DiskFault = error_json (codes "DiskFault")
+outcome_json (Refused fault) = fault_json fault
 outcome_json NotABase = error_json (codes "NotABase")
 outcome_json BadLine = error_json (codes "BadLine")
 outcome_json NotYet = error_json (codes "NotYet")

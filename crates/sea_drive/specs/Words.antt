@@ -1,11 +1,12 @@
 -- The words of a command line.
-use Rattle.std.specs.Prelude.{◌≡◌, ℕ, ℤ, List, [], ◌∷◌, take, Bool, true, false, if◌then◌else◌, is_some, Option, Some, None, codes}
+use Rattle.std.specs.Prelude.{◌≡◌, ℕ, List, [], ◌∷◌, take, Bool, true, false, if◌then◌else◌, is_some, Option, Some, None, codes}
 use Rattle.std.specs.Io.KnownBytes.{Appends}
 use Rattle.std.specs.Str.{bytes_eq}
-use Rattle.sea_disk.specs.Shown.{Shown}
 use Rattle.sea_core.specs.declared.limits.Limits.{Limits}
+use Rattle.sea_core.specs.Limits.{IsStandard}
 use Rattle.sea_drive.specs.Dumps.{Dumps}
 use Rattle.sea_drive.specs.Play.{Ends}
+use Rattle.sea_drive.specs.Setting.{Setting, Tape}
 use Rattle.sea_drive.specs.declared.command.Command.{Command}
 use Rattle.sea_drive.specs.declared.command.Command.TheVariants.{Play, Dump}
 use Rattle.sea_drive.specs.declared.status.Status.{Status}
@@ -38,7 +39,7 @@ is_play _ = false
 abbrev pub usage_line : List ℕ
 usage_line = codes "usage: seatable new FOLDER | play FOLDER | dump FOLDER | drill FOLDER NUMBER COUNT | serve FOLDER ADDRESS WORKERS CONNECTIONS\n"
 
--- The words are no command's: the usage line was written, or the sink failed, and has some front of it.
+-- The words are no command's: the usage line was written, or the sink failed, and has some prefix of it.
 abbrev pub SaysUsage : Status → Option (List ℕ) → Option (List ℕ) → Type 0
 SaysUsage Usage taken given = Appends taken given usage_line
 SaysUsage SinkFault taken given = (count : ℕ) × Appends taken given (take count usage_line)
@@ -46,7 +47,7 @@ SaysUsage _ taken given = ⊥
 
 -- How a run by the command of its words ends: a script was played or a base was dumped, with the standard limits; or
 -- the disk comes back as it was.
-abbrev pub RunsBy : {D : Type 0} → Option Command → Status → Option ℤ → Type 0 → (D → Shown) → D → D → Option (List ℕ) → Option (List ℕ) → Option (List ℕ) → Option (List ℕ) → Type 0
-RunsBy (Some Play) status clock told shows disk back input left taken given = (limits : Limits) × (limits.log_bytes ≡ 268435456) × Ends status clock told shows limits disk back input left taken given
-RunsBy (Some Dump) status clock told shows disk back input left taken given = (limits : Limits) × (limits.log_bytes ≡ 268435456) × Dumps status told shows limits disk back taken given
-RunsBy None status clock told shows disk back input left taken given = SaysUsage status taken given × (back ≡ disk)
+abbrev pub RunsBy : {D : Type 0} → Option Command → Status → Setting D → D → D → Tape → Type 0
+RunsBy (Some Play) status set disk back tape = (limits : Limits) × IsStandard limits × Ends status set limits disk back tape
+RunsBy (Some Dump) status set disk back tape = (limits : Limits) × IsStandard limits × Dumps status set.disk limits disk back tape.taken tape.given
+RunsBy None status set disk back tape = SaysUsage status tape.taken tape.given × (back ≡ disk)

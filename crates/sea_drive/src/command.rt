@@ -5,6 +5,7 @@ ghost use Rattle.sea_core.specs.Stands.{StandsFor};
 ghost use Rattle.sea_operation.specs.declared.base.Plain.{Plain};
 ghost use Rattle.sea_lines.specs.Lines.{TakesWithin};
 ghost use Rattle.sea_drive.specs.Play.{CountsDisk, is_source_fault, is_sink_fault};
+ghost use Rattle.sea_drive.specs.Setting.{setting, tape};
 ghost use Rattle.sea_drive.specs.Words.{command_in, command_named as command_named_of, folder_in, is_play, usage_line as usage_line_of, SaysUsage, RunsBy};
 
 use crate::dumping::dump;
@@ -40,7 +41,7 @@ pub fn run<S: Source, K: Sink, D: Disk, C: Clock>(
     disk: D,
     clock: &mut C,
 ) -> (Status, D)
-    ensures ends { RunsBy (command_in words.now) result.0 (C.told clock.old) D.told D.shows disk result.1 (S.left source.old) (S.left source.new) (K.taken sink.old) (K.taken sink.new) }
+    ensures ends { RunsBy (command_in words.now) result.0 (setting (C.told clock.old) D.told D.shows D.faults D.failed) disk result.1 (tape (S.left source.old) (S.left source.new) (K.taken sink.old) (K.taken sink.new)) }
     ensures source { IsCaused (is_source_fault result.0) (S.faults source.old) (S.faults source.new) }
     ensures sink { IsCaused (is_sink_fault result.0) (K.faults sink.old) (K.faults sink.new) }
     ensures disk { CountsDisk result.0 (D.faults disk) (D.faults result.1) }
@@ -80,7 +81,7 @@ fn command_named(word: &str) -> Option<Command>
     None
 }
 
-/// The folder that the words name, where they are a command's. The program's main alone uses it.
+/// The folder that the words name, where they are a command's.
 pub fn folder_of(words: &[Word]) -> Option<&str>
     ensures { option_map (λ folder. folder.now) result ≡ folder_in words.now }
 {
@@ -90,8 +91,8 @@ pub fn folder_of(words: &[Word]) -> Option<&str>
     }
 }
 
-// Writes the line that says which words there are.
-fn usage<K: Sink>(sink: &mut K) -> Status
+/// Writes the line that says which words there are.
+pub fn usage<K: Sink>(sink: &mut K) -> Status
     ensures says { SaysUsage result (K.taken sink.old) (K.taken sink.new) }
     ensures sink { IsCaused (is_sink_fault result) (K.faults sink.old) (K.faults sink.new) }
     ensures source { is_source_fault result ≡ false }

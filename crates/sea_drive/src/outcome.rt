@@ -1,7 +1,6 @@
 // What comes of a line.
 use sea_cell::{CellValue, Texts};
-use sea_core::Feed;
-use sea_operation::OpRefusal;
+use sea_core::{CoreFault, Feed};
 use sqlite_items::Items;
 
 /// A row of an answer: its cells in the order of the answer's columns.
@@ -30,19 +29,9 @@ pub enum LineOutcome {
     Rows(Answer),
     /// The answer of a feed.
     Fed(Feed),
-    /// A feed asks for entries from before the opening, when the base had this version.
-    FeedGone(u64),
-    /// A feed asks for entries behind a version that the base doesn't have yet; it has this one.
-    FeedAhead(u64),
-    /// The base refuses the operation, or a select names no table.
-    Refusal(OpRefusal),
-    /// The disk failed in an earlier write, and so many of its calls had failed then. The base takes no operation until
-    /// it is reopened.
-    BaseFailed(u64),
-    /// The log would have so many bytes with the operation, which is more than it may have.
-    LogFull(u64),
-    /// A call of the disk failed.
-    DiskFault,
+    /// What was asked for is refused: by the core; as no operation; by a select that names no table; or by a reopening where
+    /// a call of the disk failed.
+    Refused(CoreFault),
     /// The files stand for no base.
     NotABase,
     /// The line is no UTF-8, or has no form.

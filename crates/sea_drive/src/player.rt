@@ -5,18 +5,19 @@ ghost use Rattle.sea_core.specs.Stands.{StandsFor};
 ghost use Rattle.sea_operation.specs.declared.base.Plain.{Plain};
 ghost use Rattle.sea_core.specs.declared.limits.Limits.{Limits};
 ghost use Rattle.sea_lines.specs.Lines.{KeepsTotal, TakesWithin};
+ghost use Rattle.sea_lines.specs.Reader.{bytes_read, place_of};
 ghost use Rattle.sea_drive.specs.Outcome.{start_outcome as start_outcome_of, is_disk_fault as is_disk_fault_of};
 ghost use Rattle.sea_drive.specs.Play.{Ends, Goes, CountsDisk, is_source_fault, is_sink_fault, Writes, WritesPiece, end_status as end_status_of, fault_status as fault_status_of, start_status as start_status_of};
-ghost use Rattle.sea_lines.specs.Reader.{bytes_read, place_of};
-ghost use Rattle.sea_drive.specs.Turns.{PlaysOn, Turns, has_source_fault, has_sink_fault, ends_by, CountsTurn, ReadsOn};
+ghost use Rattle.sea_drive.specs.Rounds.{PlaysOn, Rounds, has_source_fault, has_sink_fault, ends_by, CountsRound, ReadsOn};
+ghost use Rattle.sea_drive.specs.Setting.{setting, tape};
 
 use crate::line::Played;
 use crate::outcome::LineOutcome;
 use crate::playing::play_line;
 use crate::reply::{line_of, memory_line};
+use crate::round::{Player, Round};
 use crate::status::Status;
-use crate::turn::{Player, Turn};
-use sea_core::{Core, Limits, StartFault};
+use sea_core::{Core, CoreFault, Limits, StartFault};
 use sea_disk::Disk;
 use sea_edge::{Clock, Sink, Source};
 use sea_lines::{LineReader, ReadFault};
@@ -32,7 +33,7 @@ pub fn play<S: Source, K: Sink, D: Disk, C: Clock>(
     disk: D,
     clock: &mut C,
 ) -> (Status, D)
-    ensures ends { Ends result.0 (C.told clock.old) D.told D.shows limits disk result.1 (S.left source.old) (S.left source.new) (K.taken sink.old) (K.taken sink.new) }
+    ensures ends { Ends result.0 (setting (C.told clock.old) D.told D.shows D.faults D.failed) limits disk result.1 (tape (S.left source.old) (S.left source.new) (K.taken sink.old) (K.taken sink.new)) }
     ensures source { IsCaused (is_source_fault result.0) (S.faults source.old) (S.faults source.new) }
     ensures sink { IsCaused (is_sink_fault result.0) (K.faults sink.old) (K.faults sink.new) }
     ensures disk { CountsDisk result.0 (D.faults disk) (D.faults result.1) }
@@ -48,31 +49,32 @@ pub fn play<S: Source, K: Sink, D: Disk, C: Clock>(
         Ok(core) => core,
         Err((fault, disk)) => return (start_status(fault), disk),
     };
-    let mut next = Turn::On(Player {
+    let mut next = Round::On(Player {
         core,
-        wanted: false,
-        faulted: false,
+        ran_out_of_memory: false,
+        disk_failed: false,
     });
-    'turns: loop {
+    'rounds: loop {
         match next {
-            Turn::On(player) => next = turn(alloc, &mut reader, player, source, sink, clock),
-            Turn::End(status, disk) => return (status, disk),
+            Round::On(player) => next = play_round(alloc, &mut reader, player, source, sink, clock),
+            Round::End(status, disk) => return (status, disk),
         }
     }
 }
 
 // Plays the next line, or ends.
-fn turn<S: Source, K: Sink, D: Disk, C: Clock>(
+fn play_round<S: Source, K: Sink, D: Disk, C: Clock>(
     alloc: Global,
     reader: &mut LineReader,
     player: Player<D>,
     source: &mut S,
     sink: &mut K,
     clock: &mut C,
-) -> Turn<D>
-    ensures turns { (limits : Limits) (disk : D) (input taken : Option (List ℕ)) → Goes (C.told clock.old) D.told D.shows limits disk input (place_of reader.old (S.left source.old)) player.core taken (K.taken sink.old) player.wanted player.faulted
-        → Turns (C.told clock.old) D.told D.shows limits disk input (S.left source.new) (place_of reader.new (S.left source.new)) taken (K.taken sink.new) result }
-    ensures disk { (first : ℕ) → IsCaused player.faulted first (D.faults player.core.disk) → CountsTurn D.faults first result }
+) -> Round<D>
+    ensures rounds { (limits : Limits) (disk : D) (input taken : Option (List ℕ))
+        → Goes (setting (C.told clock.old) D.told D.shows D.faults D.failed) limits disk (tape input (S.left source.old) taken (K.taken sink.old)) (place_of reader.old (S.left source.old)) player
+        → Rounds (setting (C.told clock.old) D.told D.shows D.faults D.failed) limits disk (tape input (S.left source.new) taken (K.taken sink.new)) (place_of reader.new (S.left source.new)) result }
+    ensures disk { (first : ℕ) → IsCaused player.disk_failed first (D.faults player.core.disk) → CountsRound D.faults first result }
     ensures source { IsCaused (has_source_fault result) (S.faults source.old) (S.faults source.new) }
     ensures sink { IsCaused (has_sink_fault result) (K.faults sink.old) (K.faults sink.new) }
     ensures clock { C.told clock.new ≡ C.told clock.old }
@@ -82,21 +84,25 @@ fn turn<S: Source, K: Sink, D: Disk, C: Clock>(
     match reader.next_line(alloc, source) {
         Ok(Some(line)) => player.play(alloc, line.as_slice(), sink, clock),
         Ok(None) => {
-            let status = end_status(player.wanted, player.faulted);
-            Turn::End(status, player.finish())
+            let status = end_status(player.ran_out_of_memory, player.disk_failed);
+            Round::End(status, player.finish())
         }
-        Err(fault) => Turn::End(fault_status(fault), player.finish()),
+        Err(fault) => Round::End(fault_status(fault), player.finish()),
     }
 }
 
 // The status of a script whose lines were all played.
-fn end_status(wanted: bool, faulted: bool) -> Status
-    ensures { result ≡ end_status_of wanted faulted }
+fn end_status(ran_out_of_memory: bool, disk_failed: bool) -> Status
+    ensures { result ≡ end_status_of ran_out_of_memory disk_failed }
 {
-    if faulted {
+    if disk_failed {
         return Status::DiskFault;
     }
-    if wanted { Status::Memory } else { Status::Done }
+    if ran_out_of_memory {
+        Status::Memory
+    } else {
+        Status::Done
+    }
 }
 
 // The status of a script whose next line can't be read.
@@ -127,7 +133,7 @@ fn start_outcome(fault: StartFault) -> Option<LineOutcome>
 {
     match fault {
         StartFault::Memory => None,
-        StartFault::DiskFault => Some(LineOutcome::DiskFault),
+        StartFault::DiskFault => Some(LineOutcome::Refused(CoreFault::DiskFault)),
         StartFault::NotABase => Some(LineOutcome::NotABase),
     }
 }
@@ -139,8 +145,8 @@ impl<D: Disk> Player<D> {
     {
         let Player {
             core,
-            wanted: _,
-            faulted: _,
+            ran_out_of_memory: _,
+            disk_failed: _,
         } = self;
         core.finish()
     }
@@ -152,58 +158,58 @@ impl<D: Disk> Player<D> {
         line: &[u8],
         sink: &mut K,
         clock: &mut C,
-    ) -> Turn<D>
-        ensures plays { PlaysOn (C.told clock.old) D.told D.shows self line.now result (K.taken sink.old) (K.taken sink.new) }
-        ensures disk { (first : ℕ) → IsCaused self.faulted first (D.faults self.core.disk) → CountsTurn D.faults first result }
+    ) -> Round<D>
+        ensures plays { PlaysOn (setting (C.told clock.old) D.told D.shows D.faults D.failed) self line.now result (K.taken sink.old) (K.taken sink.new) }
+        ensures disk { (first : ℕ) → IsCaused self.disk_failed first (D.faults self.core.disk) → CountsRound D.faults first result }
         ensures sink { IsCaused (has_sink_fault result) (K.faults sink.old) (K.faults sink.new) }
         ensures source { has_source_fault result ≡ false }
         ensures clock { C.told clock.new ≡ C.told clock.old }
     {
         let Player {
             core,
-            wanted,
-            faulted,
+            ran_out_of_memory,
+            disk_failed,
         } = self;
         match play_line(alloc, core, clock, line) {
             Played::On(outcome, core) => {
-                let wanted = has_wanted(wanted, &outcome);
-                let faulted = has_faulted(faulted, &outcome);
+                let ran_out_of_memory = out_of_memory_by(ran_out_of_memory, &outcome);
+                let disk_failed = disk_failed_by(disk_failed, &outcome);
                 match write(alloc, sink, &outcome) {
-                    None => Turn::On(Player {
+                    None => Round::On(Player {
                         core,
-                        wanted,
-                        faulted,
+                        ran_out_of_memory,
+                        disk_failed,
                     }),
-                    Some(status) => Turn::End(status, core.finish()),
+                    Some(status) => Round::End(status, core.finish()),
                 }
             }
             Played::Refused(fault, disk) => match write(alloc, sink, &start_outcome(fault)) {
-                None => Turn::End(start_status(fault), disk),
-                Some(status) => Turn::End(status, disk),
+                None => Round::End(start_status(fault), disk),
+                Some(status) => Round::End(status, disk),
             },
         }
     }
 }
 
-// Some line has met want of memory, this one or one before it.
-fn has_wanted(wanted: bool, outcome: &Option<LineOutcome>) -> bool
-    ensures { result ≡ (wanted || is_none outcome.now) }
+// Some line has run out of memory, this one or one before it.
+fn out_of_memory_by(before: bool, outcome: &Option<LineOutcome>) -> bool
+    ensures { result ≡ (before || is_none outcome.now) }
 {
-    wanted || outcome.is_none()
+    before || outcome.is_none()
 }
 
-// Some line has met a fault of the disk, this one or one before it.
-fn has_faulted(faulted: bool, outcome: &Option<LineOutcome>) -> bool
-    ensures { result ≡ (faulted || is_disk_fault_of outcome.now) }
+// In some line the disk has failed, in this one or in one before it.
+fn disk_failed_by(before: bool, outcome: &Option<LineOutcome>) -> bool
+    ensures { result ≡ (before || is_disk_fault_of outcome.now) }
 {
-    faulted || is_disk_fault(outcome)
+    before || is_disk_fault(outcome)
 }
 
-// A line met a fault of the disk.
+// In a line the disk failed.
 fn is_disk_fault(outcome: &Option<LineOutcome>) -> bool
     ensures { result ≡ is_disk_fault_of outcome.now }
 {
-    matches!(outcome, Some(LineOutcome::DiskFault))
+    matches!(outcome, Some(LineOutcome::Refused(CoreFault::DiskFault)))
 }
 
 // Writes the reply of a line. Answers the status with which the script ends, or None where it goes on.
@@ -212,10 +218,10 @@ fn write<K: Sink>(alloc: Global, sink: &mut K, outcome: &Option<LineOutcome>) ->
     ensures sink { IsCaused (ends_by is_sink_fault result) (K.faults sink.old) (K.faults sink.new) }
     ensures source { ends_by is_source_fault result ≡ false }
 {
-    let Some(shown) = outcome else {
+    let Some(outcome) = outcome else {
         return give(sink, memory_line());
     };
-    match line_of(alloc, shown) {
+    match line_of(alloc, outcome) {
         Ok(line) => give(sink, line.as_slice()),
         Err(_) => Some(Status::Memory),
     }

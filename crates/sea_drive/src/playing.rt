@@ -1,22 +1,25 @@
 // Playing one line.
-ghost use Rattle.std.specs.Prelude.{◌≡◌, ◌⊎◌, ℤ, ℕ, List, Option, Some, None, false, IsUtf8, IfOk};
+ghost use Rattle.std.specs.Prelude.{◌≡◌, ◌⊎◌, ℤ, ℕ, List, Option, Some, None, IsUtf8, IfOk};
 ghost use Rattle.sea_edge.specs.Minutes.{Tells};
 ghost use Rattle.sea_moment.specs.Moment.{IsMoment};
 ghost use Rattle.sea_ops.specs.Operations.{op_of};
-ghost use Rattle.sea_drive.specs.Outcome.{edit_outcome as edit_outcome_of, select_outcome, is_disk_fault};
+ghost use Rattle.sea_core.specs.Events.{IsTaken};
+ghost use Rattle.sea_core.specs.State.{known};
+ghost use Rattle.sea_core.specs.declared.event.Event.TheVariants as event;
+ghost use Rattle.sea_drive.specs.Feeds.{feed_words as feed_words_of};
+ghost use Rattle.sea_drive.specs.Outcome.{event_outcome as event_outcome_of, refused_outcome as refused_outcome_of, select_outcome};
 ghost use Rattle.sea_drive.specs.Select.{select_of};
-ghost use Rattle.sea_faults.specs.Counts.{IsCaused};
-ghost use Rattle.sea_drive.specs.Steps.{LineStep, VerbStep, Stays, Edits, EditsText};
-ghost use Rattle.sea_drive.specs.Turns.{Counted};
+ghost use Rattle.sea_drive.specs.Setting.{setting};
+ghost use Rattle.sea_drive.specs.Steps.{LineStep, VerbStep, Stays, MakesEvent, MakesEdit, MakesFeed};
 
-use crate::feed::play_feed;
+use crate::feed::feed_words;
 use crate::line::Played;
 use crate::outcome::LineOutcome;
 use crate::select::{answer_of, table_of_select};
 use crate::texts::without_return;
 use crate::verb::{Verb, asked_by};
 use sea_cell::{Moment, Text};
-use sea_core::{Core, CoreFault, one_base_at_most};
+use sea_core::{Core, CoreFault, Event, Outcome, one_base_at_most};
 use sea_disk::Disk;
 use sea_edge::Clock;
 use sea_operation::{Entry, OpRefusal, Plain, plain_named};
@@ -31,8 +34,7 @@ pub fn play_line<D: Disk, C: Clock>(
     clock: &mut C,
     line: &[u8],
 ) -> Played<D>
-    ensures step { LineStep (C.told clock.old) D.told D.shows core line.now result }
-    ensures counted { Counted D.faults core result }
+    ensures step { LineStep (setting (C.told clock.old) D.told D.shows D.faults D.failed) core line.now result }
     ensures clock { C.told clock.new ≡ C.told clock.old }
 {
     let (verb, rest) = asked_by(without_return(line));
@@ -47,8 +49,7 @@ fn play_verb<D: Disk, C: Clock>(
     verb: Verb,
     rest: &str,
 ) -> Played<D>
-    ensures step { VerbStep (C.told clock.old) D.told D.shows core verb rest.now result }
-    ensures counted { Counted D.faults core result }
+    ensures step { VerbStep (setting (C.told clock.old) D.told D.shows D.faults D.failed) core verb rest.now result }
     ensures clock { C.told clock.new ≡ C.told clock.old }
 {
     match verb {
@@ -61,11 +62,12 @@ fn play_verb<D: Disk, C: Clock>(
             Played::On(outcome, core)
         }
         Verb::Select => {
-            let outcome = play_select(alloc, &core.base, rest);
+            let outcome = play_select(alloc, core.content(), rest);
             Played::On(outcome, core)
         }
         Verb::Feed => {
-            let outcome = play_feed(&core, rest);
+            let mut core = core;
+            let outcome = play_feed(&mut core, rest);
             Played::On(outcome, core)
         }
         Verb::Reopen => reopen(alloc, core),
@@ -79,15 +81,14 @@ fn play_edit<D: Disk, C: Clock>(
     clock: &mut C,
     text: &str,
 ) -> Option<LineOutcome>
-    ensures step { Stays core.old None result core.new ⊎ EditsText (C.told clock.old) D.told D.shows core.old (op_of text.now) result core.new }
-    ensures counted { IsCaused (is_disk_fault result) (D.faults core.old.disk) (D.faults core.new.disk) }
+    ensures step { Stays core.old None result core.new ⊎ MakesEdit (setting (C.told clock.old) D.told D.shows D.faults D.failed) core.old (op_of text.now) result core.new }
     ensures clock { C.told clock.new ≡ C.told clock.old }
 {
     let op = match op_of_json(alloc, text.as_bytes()) {
         Ok(op) => op,
         Err(OpFault::Memory) => return None,
         Err(OpFault::BadOperation) => {
-            return Some(LineOutcome::Refusal(OpRefusal::BadOperation));
+            return Some(LineOutcome::Refused(CoreFault::Op(OpRefusal::BadOperation)));
         }
     };
     let moment = now(clock);
@@ -111,32 +112,54 @@ fn edit<D: Disk>(core: &mut Core<D>, entry: Entry) -> Option<LineOutcome>
     requires moment { IsMoment entry.moment.0 }
     requires user { IsUtf8 entry.user }
     requires form { (text : List ℕ) × (op_of text ≡ Some entry.op) }
-    ensures edits { Edits D.told D.shows core.old entry result core.new }
-    ensures counted { IsCaused (is_disk_fault result) (D.faults core.old.disk) (D.faults core.new.disk) }
+    ensures { MakesEvent (known D.told D.shows D.faults D.failed) core.old (event.Edit entry) result core.new }
 {
-    edit_outcome(core.edit(entry))
+    make(core, Event::Edit(entry))
 }
 
-// What comes of an edit.
-fn edit_outcome(answer: Result<u64, CoreFault>) -> Option<LineOutcome>
-    ensures { result ≡ edit_outcome_of answer }
+// The line `feed`.
+fn play_feed<D: Disk>(core: &mut Core<D>, text: &str) -> Option<LineOutcome>
+    ensures { MakesFeed (known D.told D.shows D.faults D.failed) core.old (feed_words_of text.now) result core.new }
 {
-    match answer {
-        Ok(version) => Some(LineOutcome::Version(version)),
-        Err(CoreFault::Memory) => None,
-        Err(CoreFault::Op(refusal)) => Some(LineOutcome::Refusal(refusal)),
-        Err(CoreFault::BaseFailed { count }) => Some(LineOutcome::BaseFailed(count)),
-        Err(CoreFault::LogFull { size }) => Some(LineOutcome::LogFull(size)),
-        Err(CoreFault::DiskFault) => Some(LineOutcome::DiskFault),
-        Err(CoreFault::FeedGone { opening }) => Some(LineOutcome::FeedGone(opening)),
-        Err(CoreFault::FeedAhead { version }) => Some(LineOutcome::FeedAhead(version)),
+    let Some((from, most)) = feed_words(text) else {
+        return Some(LineOutcome::BadLine);
+    };
+    make(core, Event::Feed { from, most })
+}
+
+// Makes an event.
+fn make<D: Disk>(core: &mut Core<D>, event: Event) -> Option<LineOutcome>
+    requires { IsTaken event }
+    ensures { MakesEvent (known D.told D.shows D.faults D.failed) core.old event result core.new }
+{
+    event_outcome(core.step(event))
+}
+
+// What comes of an event.
+fn event_outcome(came: Outcome) -> Option<LineOutcome>
+    ensures { result ≡ event_outcome_of came }
+{
+    match came {
+        Outcome::Edit(Ok(version)) => Some(LineOutcome::Version(version)),
+        Outcome::Edit(Err(fault)) => refused_outcome(fault),
+        Outcome::Feed(Ok(feed)) => Some(LineOutcome::Fed(feed)),
+        Outcome::Feed(Err(fault)) => refused_outcome(fault),
+    }
+}
+
+// What comes of a fault of the core.
+fn refused_outcome(fault: CoreFault) -> Option<LineOutcome>
+    ensures { result ≡ refused_outcome_of fault }
+{
+    match fault {
+        CoreFault::Memory => None,
+        fault => Some(LineOutcome::Refused(fault)),
     }
 }
 
 // The line `sql`.
 fn play_select(alloc: Global, base: &Plain, text: &str) -> Option<LineOutcome>
-    ensures step { (result ≡ None) ⊎ (result ≡ Some (select_outcome base.now (select_of text.now))) }
-    ensures no_fault { is_disk_fault result ≡ false }
+    ensures { (result ≡ None) ⊎ (result ≡ Some (select_outcome base.now (select_of text.now))) }
 {
     match select(alloc, base, text) {
         Ok(outcome) => Some(outcome),
@@ -146,30 +169,33 @@ fn play_select(alloc: Global, base: &Plain, text: &str) -> Option<LineOutcome>
 
 // The answer of a select.
 fn select(alloc: Global, base: &Plain, text: &str) -> Result<LineOutcome, AllocError>
-    ensures answer { IfOk result (λ outcome. outcome ≡ select_outcome base.now (select_of text.now)) }
-    ensures no_fault { IfOk result (λ outcome. is_disk_fault (Some outcome) ≡ false) }
+    ensures { IfOk result (λ outcome. outcome ≡ select_outcome base.now (select_of text.now)) }
 {
     let Some(name) = table_of_select(text) else {
         return Ok(LineOutcome::NotYet);
     };
     match plain_named(base.tables.as_slice(), name) {
         Some(plain) => Ok(LineOutcome::Rows(answer_of(alloc, base.pairs.as_slice(), plain)?)),
-        None => Ok(LineOutcome::Refusal(OpRefusal::NoTable {
-            name: Text::copy_of(alloc, name)?,
-        })),
+        None => Ok(no_table(Text::copy_of(alloc, name)?)),
     }
+}
+
+// A select names no table.
+fn no_table(name: Text) -> LineOutcome
+    ensures { result ≡ LineOutcome.Refused (CoreFault.Op (OpRefusal.NoTable name)) }
+{
+    LineOutcome::Refused(CoreFault::Op(OpRefusal::NoTable { name }))
 }
 
 // The line `reopen`: the base is found again from its files.
 fn reopen<D: Disk>(alloc: Global, core: Core<D>) -> Played<D>
-    ensures step { (clock : Option ℤ) (rest : List ℕ) → VerbStep clock D.told D.shows core Verb.Reopen rest result }
-    ensures counted { Counted D.faults core result }
+    ensures { (clock : Option ℤ) (rest : List ℕ) → VerbStep (setting clock D.told D.shows D.faults D.failed) core Verb.Reopen rest result }
 {
-    one_base_at_most();
-    let limits = core.limits;
+    one_base_at_most(); // law
+    let limits = core.limits();
     match Core::start(alloc, core.finish(), limits) {
         Ok(core) => {
-            let version = core.base.version;
+            let version = core.content().version;
             Played::On(Some(LineOutcome::Reopened(version)), core)
         }
         Err((fault, disk)) => Played::Refused(fault, disk),

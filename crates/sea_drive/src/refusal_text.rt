@@ -1,15 +1,56 @@
-// What is shown of the refusals of operations.
+// The JSON of refusals.
 ghost use Rattle.std.specs.Prelude.{◌≡◌, IfOk, codes};
 ghost use Rattle.serde_json.specs.View.{view};
-ghost use Rattle.sea_drive.specs.Refused.{error_json as error_json_of, error_with_text, column_error as column_error_of, counter_word as counter_word_of, fault_word as fault_word_of, refusal_json as refusal_json_of};
+ghost use Rattle.sea_drive.specs.Refused.{error_json as error_json_of, error_with_text, fault_json as fault_json_of, column_error as column_error_of, counter_word as counter_word_of, fault_word as fault_word_of, refusal_json as refusal_json_of};
 
 use sea_cell::{CellFault, Text};
+use sea_core::CoreFault;
 use sea_operation::{Counter, OpRefusal};
 use serde_json::{Value, json};
 use std::alloc::{AllocError, Global};
 
-/// What is shown of a refusal: its name and its fields.
-pub fn refusal_json(alloc: Global, refusal: &OpRefusal) -> Result<Value, AllocError>
+/// The JSON of what the core answers in place of what was asked for: its name and its number, or the refusal of the
+/// operation.
+pub fn fault_json(alloc: Global, fault: &CoreFault) -> Result<Value, AllocError>
+    ensures { IfOk result (λ json. view json ≡ fault_json_of fault.now) }
+{
+    match fault {
+        CoreFault::Memory => error_json(alloc, "Memory"),
+        CoreFault::Op(refusal) => refusal_json(alloc, refusal),
+        CoreFault::BaseFailed { count } => failed_json(alloc, *count),
+        CoreFault::LogFull { size } => full_json(alloc, *size),
+        CoreFault::DiskFault => error_json(alloc, "DiskFault"),
+        CoreFault::FeedGone { opening } => gone_json(alloc, *opening),
+        CoreFault::FeedAhead { version } => ahead_json(alloc, *version),
+    }
+}
+
+fn full_json(alloc: Global, size: u64) -> Result<Value, AllocError>
+    ensures { IfOk result (λ json. view json ≡ fault_json_of (CoreFault.LogFull size)) }
+{
+    json!(in alloc; {"error": "LogFull", "size": size})
+}
+
+fn gone_json(alloc: Global, opening: u64) -> Result<Value, AllocError>
+    ensures { IfOk result (λ json. view json ≡ fault_json_of (CoreFault.FeedGone opening)) }
+{
+    json!(in alloc; {"error": "FeedGone", "opening": opening})
+}
+
+fn ahead_json(alloc: Global, version: u64) -> Result<Value, AllocError>
+    ensures { IfOk result (λ json. view json ≡ fault_json_of (CoreFault.FeedAhead version)) }
+{
+    json!(in alloc; {"error": "FeedAhead", "version": version})
+}
+
+fn failed_json(alloc: Global, count: u64) -> Result<Value, AllocError>
+    ensures { IfOk result (λ json. view json ≡ fault_json_of (CoreFault.BaseFailed count)) }
+{
+    json!(in alloc; {"count": count, "error": "BaseFailed"})
+}
+
+// The JSON of a refusal of an operation: its name and its fields.
+fn refusal_json(alloc: Global, refusal: &OpRefusal) -> Result<Value, AllocError>
     ensures { IfOk result (λ json. view json ≡ refusal_json_of refusal.now) }
 {
     match refusal {

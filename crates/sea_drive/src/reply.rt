@@ -4,9 +4,9 @@ ghost use Rattle.sea_cell.specs.Conversion.{json_of};
 ghost use Rattle.serde_json.specs.View.{view};
 ghost use Rattle.sea_drive.specs.Reply.{row_json as row_json_of, rows_json as rows_json_of, outcome_json as outcome_json_of, outcome_line, reply_line};
 
-use crate::feed_text::{ahead_json, feed_json, gone_json};
+use crate::feed_text::feed_json;
 use crate::outcome::{Answer, AnswerRow, LineOutcome};
-use crate::refusal_text::{error_json, refusal_json};
+use crate::refusal_text::{error_json, fault_json};
 use sea_cell::{CellValue, json_of_cell, texts_json};
 use sea_ops::operations_have_no_float;
 use serde_json::{Value, json};
@@ -34,7 +34,7 @@ pub fn line_of(alloc: Global, outcome: &LineOutcome) -> Result<Vec<u8>, AllocErr
     Ok(line)
 }
 
-// What is shown of an outcome.
+// The JSON of an outcome.
 fn outcome_json(alloc: Global, outcome: &LineOutcome) -> Result<Value, AllocError>
     ensures { IfOk result (λ json. view json ≡ outcome_json_of outcome.now) }
 {
@@ -44,12 +44,7 @@ fn outcome_json(alloc: Global, outcome: &LineOutcome) -> Result<Value, AllocErro
         LineOutcome::Reopened(version) => reopened_json(alloc, *version),
         LineOutcome::Rows(answer) => answer_json(alloc, answer),
         LineOutcome::Fed(feed) => feed_json(alloc, feed),
-        LineOutcome::FeedGone(opening) => gone_json(alloc, *opening),
-        LineOutcome::FeedAhead(version) => ahead_json(alloc, *version),
-        LineOutcome::Refusal(refusal) => refusal_json(alloc, refusal),
-        LineOutcome::BaseFailed(count) => failed_json(alloc, *count),
-        LineOutcome::LogFull(size) => full_json(alloc, *size),
-        LineOutcome::DiskFault => error_json(alloc, "DiskFault"),
+        LineOutcome::Refused(fault) => fault_json(alloc, fault),
         LineOutcome::NotABase => error_json(alloc, "NotABase"),
         LineOutcome::BadLine => error_json(alloc, "BadLine"),
         LineOutcome::NotYet => error_json(alloc, "NotYet"),
@@ -74,18 +69,6 @@ fn answer_json(alloc: Global, answer: &Answer) -> Result<Value, AllocError>
     let columns = texts_json(alloc, answer.columns.as_slice())?;
     let rows = rows_json(alloc, answer.rows.as_slice())?;
     json!(in alloc; {"columns": columns, "rows": rows})
-}
-
-fn failed_json(alloc: Global, count: u64) -> Result<Value, AllocError>
-    ensures { IfOk result (λ json. view json ≡ outcome_json_of (LineOutcome.BaseFailed count)) }
-{
-    json!(in alloc; {"count": count, "error": "BaseFailed"})
-}
-
-fn full_json(alloc: Global, size: u64) -> Result<Value, AllocError>
-    ensures { IfOk result (λ json. view json ≡ outcome_json_of (LineOutcome.LogFull size)) }
-{
-    json!(in alloc; {"error": "LogFull", "size": size})
 }
 
 // An array of rows.

@@ -1,10 +1,10 @@
 // One record more.
-ghost use Rattle.std.specs.Prelude.{◌≡◌, ◌+◌, ◌^◌, ◌<◌, ◌≤◌, ◌++◌, ◌∷◌, [], ◌↔◌, ℕ, List, length, max, IfOk, OnOk, IsErrOf};
+ghost use Rattle.std.specs.Prelude.{◌≡◌, ◌+◌, ◌-◌, ◌^◌, ◌<◌, ◌≤◌, ◌++◌, ◌∷◌, [], ◌↔◌, ℕ, List, length, min, max, IfOk, OnOk, IsErrOf};
 ghost use Rattle.sea_disk.specs.Shown.{IsSettled};
 ghost use Rattle.sea_disk.specs.Runs.{Works};
 ghost use Rattle.sea_fields.specs.Fields.{led};
 ghost use Rattle.sea_log.specs.Faults.{LogCause};
-ghost use Rattle.sea_log.specs.Images.{IsClosedInImages};
+ghost use Rattle.sea_log.specs.Images.{IsClosedInImages, with_record};
 ghost use Rattle.sea_log.specs.Records.{HoldsWithOrWithout, size_with};
 
 use crate::fault::LogFault;
@@ -34,6 +34,7 @@ pub fn append<D: Disk>(
     ensures added { D.told → (payloads : List (List ℕ)) → IsClosedInImages (D.shows disk.old) file payloads end
         → IfOk result (λ place. IsClosedInImages (D.shows disk.new) file (payloads ++ payload.now ∷ []) place) }
     ensures settled { D.told → OnOk result (IsSettled (D.shows disk.new) file) }
+    ensures bytes { D.told → OnOk result ((D.shows disk.new).seen file ≡ with_record ((D.shows disk.old).seen file) end payload.now) }
     ensures size { D.told → OnOk result (length ((D.shows disk.new).seen file) ≡ max (length ((D.shows disk.old).seen file)) (end + 6 + length payload.now)) }
     ensures place { IfOk result (λ place. place ≡ end + 5 + length payload.now) }
     ensures full { (size : ℕ) → IsErrOf result (LogFault.LogFull size) ↔ ((size ≡ size_with end payload.now) × (most < size)) }
@@ -43,7 +44,7 @@ pub fn append<D: Disk>(
     ensures faults { LogCause result (D.faults disk.old) (D.faults disk.new) }
     ensures failed { LogCause result (D.failed disk.old) (D.failed disk.new) }
 {
-    let size = end.saturating_add(6).saturating_add(payload.len() as u64);
+    let size = log_size(end, payload.len() as u64);
     if size > most {
         return Err(LogFault::LogFull { size });
     }
@@ -51,6 +52,14 @@ pub fn append<D: Disk>(
     write_through(disk, file, end + 1, record.as_slice())?;
     write_through(disk, file, end, &[1])?;
     Ok(size - 1)
+}
+
+/// How many bytes a log has whose last record, of a payload of `length` bytes, stands behind the gate at `end`: the gate
+/// behind the record is counted. A number past the last one stands there.
+pub fn log_size(end: u64, length: u64) -> u64
+    ensures { result ≡ min (end + 6 + length) (2 ^ 64 - 1) }
+{
+    end.saturating_add(6).saturating_add(length)
 }
 
 // A record and the closed gate behind it, as they stand behind the gate before them.

@@ -15,10 +15,10 @@ mod piece;
 mod removal;
 mod traversal;
 
-pub use addition::append;
+pub use addition::{append, log_size};
 pub use fault::LogFault;
 pub use first_gate::begin;
 pub use laws::one_list_at_most;
 pub use list::{Payloads, Scan};
 pub use removal::clear;
-pub use traversal::{OPEN, SHORTEST_LOG, scan};
+pub use traversal::{SHORTEST_LOG, scan};

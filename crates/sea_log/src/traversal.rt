@@ -14,7 +14,7 @@ use sea_fields::Bytes;
 use std::alloc::Global;
 
 /// A gate that is open.
-pub const OPEN: u8 = 1;
+const OPEN: u8 = 1;
 
 /// How many bytes a record has at least with the gates before it and behind it. In a log of fewer no gate counts.
 pub const SHORTEST_LOG: u64 = 6;

@@ -9,5 +9,5 @@
 mod laws;
 mod record;
 
-pub use laws::records_have_one_entry;
-pub use record::{entry_of_record, record_of_entry};
+pub use laws::{long_fields_make_long_records, records_have_one_entry};
+pub use record::{entry_of_record, record_length, record_of_entry};

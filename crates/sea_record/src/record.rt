@@ -1,5 +1,5 @@
 // The record of an entry in a log.
-ghost use Rattle.std.specs.Prelude.{◌≡◌, ◌<◌, ◌^◌, ◌↔◌, ℕ, ℤ, List, Some, length, IsTrue, IsNone, IfOk, IfSome, MatchOption};
+ghost use Rattle.std.specs.Prelude.{◌≡◌, ◌-◌, ◌<◌, ◌^◌, ◌↔◌, ℕ, ℤ, List, Some, length, min, IsTrue, IsNone, IfOk, IfSome, MatchOption};
 ghost use Rattle.sea_moment.specs.Moment.{IsMoment};
 ghost use Rattle.sea_record.specs.Record.{minutes_of as minutes_from_first, record_bytes, record_of, IsTooLong, IsRecord, HasPlaces, IsReadable, AreFieldsOf, IsWritten};
 
@@ -12,6 +12,9 @@ use std::alloc::{AllocError, Global};
 
 /// The kind of a record that holds an entry.
 const ENTRY_KIND: u8 = 1;
+
+/// How many bytes a record has beside its user and the text of its operation.
+const BESIDE_TEXTS: u64 = 25;
 
 /// The record of an entry under a number, or None where the user or the canonical text of the operation has 2^32 bytes
 /// or more. docs/formats.md has its fields.
@@ -27,6 +30,16 @@ pub fn record_of_entry(alloc: Global, lsn: u64, entry: &Entry) -> Result<Option<
     }
     let minutes = minutes_of(entry.moment);
     Ok(Some(bytes_of_fields(alloc, lsn, minutes, user, text.as_slice())?))
+}
+
+/// How many bytes the record of an entry has, under whatever number; a number past the last one stands there. It says so
+/// of entries too whose fields are too long for a record.
+pub fn record_length(alloc: Global, entry: &Entry) -> Result<u64, AllocError>
+    ensures { IfOk result (λ bytes. (lsn : ℕ) → bytes ≡ min (length (record_of lsn entry.now)) (2 ^ 64 - 1)) }
+{
+    let user = entry.user.as_str().len() as u64;
+    let text = op_text(alloc, &entry.op)?.len() as u64;
+    Ok(BESIDE_TEXTS.saturating_add(user).saturating_add(text))
 }
 
 // Fewer bytes than the length of a byte row can say.

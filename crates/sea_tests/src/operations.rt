@@ -4,7 +4,9 @@ ghost use Rattle.std.specs.Prelude.{◌≡◌};
 
 use sea_cell::{ColKind, Moment, NewColumn, NewEnd, RowId, TableNo, Text, Texts};
 use sea_fields::Bytes;
-use sea_operation::{Counter, Counters, Entries, Entry, OpRefusal, Plain, plain_named};
+use sea_operation::{
+    Counter, Counters, Entries, Entry, Op, OpRefusal, Plain, PlainPairs, PlainTables, plain_named,
+};
 use sea_ops::{OpFault, RowsSeen, check, op_of_json, op_text};
 use sea_plain::{apply_plain, run_plain};
 use sea_record::entry_of_record;
@@ -49,23 +51,22 @@ fn operations_that_no_base_takes_have_a_canonical_text(rt: HostRuntime) -> Resul
     Ok(())
 }
 
-fn counter_shown(counter: Counter) -> &'static str {
+// The refusal where numbers are spent, with the name of what counts them.
+fn spent_shown(alloc: Global, counter: Counter) -> Result<String, AllocError> {
     match counter {
-        Counter::Version => "version",
-        Counter::NextRow => "next_row",
-        Counter::NextTable => "next_table",
-        Counter::NextColumn => "next_column",
-        Counter::NextLink => "next_link",
-        Counter::Lsn => "lsn",
+        Counter::Version => format!(in alloc; "NumbersSpent version"),
+        Counter::NextRow => format!(in alloc; "NumbersSpent next_row"),
+        Counter::NextTable => format!(in alloc; "NumbersSpent next_table"),
+        Counter::NextColumn => format!(in alloc; "NumbersSpent next_column"),
+        Counter::NextLink => format!(in alloc; "NumbersSpent next_link"),
+        Counter::Lsn => format!(in alloc; "NumbersSpent lsn"),
     }
 }
 
 // A refusal as its name and the text or number that it has.
 fn refusal_shown(alloc: Global, refusal: &OpRefusal) -> Result<String, AllocError> {
     match refusal {
-        OpRefusal::NumbersSpent { counter } => {
-            format!(in alloc; "NumbersSpent {}", counter_shown(*counter))
-        }
+        OpRefusal::NumbersSpent { counter } => spent_shown(alloc, *counter),
         OpRefusal::NoTable { name } => format!(in alloc; "NoTable {}", name.as_str()),
         OpRefusal::BadName { name } => format!(in alloc; "BadName {}", name.as_str()),
         OpRefusal::DuplicateRow { id } => format!(in alloc; "DuplicateRow {}", id.as_str()),
@@ -77,12 +78,18 @@ fn refusal_shown(alloc: Global, refusal: &OpRefusal) -> Result<String, AllocErro
     }
 }
 
-fn entry_of(alloc: Global, text: &str) -> Result<Entry, OpFault> {
-    Ok(Entry {
-        op: op_of_json(alloc, text.as_bytes())?,
+fn entry_by(user: Text, op: Op) -> Entry {
+    Entry {
+        op,
         moment: Moment(7),
-        user: Text::copy_of(alloc, "Ann")?,
-    })
+        user,
+    }
+}
+
+fn entry_of(alloc: Global, text: &str) -> Result<Entry, OpFault> {
+    let user = Text::copy_of(alloc, "Ann")?;
+    let op = op_of_json(alloc, text.as_bytes())?;
+    Ok(entry_by(user, op))
 }
 
 // What comes of an operation on a base whose numbers are these.
@@ -98,15 +105,26 @@ fn word<'a>(line: &'a str, at: usize) -> &'a str {
     line.split(' ').nth(at).unwrap_or("")
 }
 
+// The number at a place of a line, or 0 where none stands there.
+fn number(line: &str, at: usize) -> u64 {
+    word(line, at).parse::<u64>().unwrap_or(0)
+}
+
+fn short_number(line: &str, at: usize) -> u32 {
+    word(line, at).parse::<u32>().unwrap_or(0)
+}
+
 // A base without tables whose version and next row, table, column and link are those of a line.
 fn base_of(alloc: Global, line: &str) -> Plain {
-    let mut base = Plain::new(alloc);
-    base.version = word(line, 0).parse::<u64>().unwrap_or(0);
-    base.next_row = word(line, 1).parse::<u64>().unwrap_or(0);
-    base.next_table = word(line, 2).parse::<u32>().unwrap_or(0);
-    base.next_column = word(line, 3).parse::<u32>().unwrap_or(0);
-    base.next_link = word(line, 4).parse::<u32>().unwrap_or(0);
-    base
+    Plain {
+        version: number(line, 0),
+        next_row: number(line, 1),
+        next_table: short_number(line, 2),
+        next_column: short_number(line, 3),
+        next_link: short_number(line, 4),
+        tables: PlainTables::new(alloc),
+        pairs: PlainPairs::new(alloc),
+    }
 }
 
 // The numbers of bases, and what comes of three operations on each: a table of two columns, two rows, and a link column, each
@@ -252,19 +270,31 @@ impl RowsSeen for Everything {
     }
 }
 
-// A column of a text column's form, or one that leads to a table.
-fn new_column(alloc: Global, name: &str, other: Option<NewEnd>) -> Result<NewColumn, AllocError> {
-    Ok(NewColumn {
-        name: Text::copy_of(alloc, name)?,
-        kind: if other.is_some() {
-            ColKind::Link
-        } else {
-            ColKind::Text
-        },
-        unit: Text::copy_of(alloc, "")?,
+fn text_column(alloc: Global, name: Text) -> NewColumn {
+    NewColumn {
+        name,
+        kind: ColKind::Text,
+        unit: Text::from(String::new(alloc)),
         options: Texts::new(alloc),
-        other,
-    })
+        other: None,
+    }
+}
+
+fn link_column(alloc: Global, name: Text, end: NewEnd) -> NewColumn {
+    NewColumn {
+        name,
+        kind: ColKind::Link,
+        unit: Text::from(String::new(alloc)),
+        options: Texts::new(alloc),
+        other: Some(end),
+    }
+}
+
+// The column R of U, where a link column ends.
+fn end_in_u(alloc: Global) -> Result<NewEnd, AllocError> {
+    let table = Text::copy_of(alloc, "U")?;
+    let name = Text::copy_of(alloc, "R")?;
+    Ok(NewEnd { table, name })
 }
 
 // T and U with a text column N each, and the link column L of T to U.
@@ -272,14 +302,13 @@ fn two_tables(rt: &impl Abort, alloc: Global) -> Result<Schema, Fail> {
     let mut schema = Schema::new(alloc);
     for table in ["T", "U"] {
         assert!(rt; schema.next_table() < 100 && schema.next_column() < 100);
-        schema.add_table(table, &[new_column(alloc, "N", None)?])?;
+        let column = text_column(alloc, Text::copy_of(alloc, "N")?);
+        schema.add_table(table, &[column])?;
     }
-    let end = NewEnd {
-        table: Text::copy_of(alloc, "U")?,
-        name: Text::copy_of(alloc, "R")?,
-    };
+    let end = end_in_u(alloc)?;
+    let column = link_column(alloc, Text::copy_of(alloc, "L")?, end);
     assert!(rt; schema.next_column() < 100 && schema.next_link() < 100);
-    schema.add_column("T", &new_column(alloc, "L", Some(end))?)?;
+    schema.add_column("T", &column)?;
     Ok(schema)
 }
 
@@ -308,8 +337,8 @@ fn a_check_looks_at_the_rows_beside_a_schema(rt: HostRuntime) -> Result<(), Fail
         let rows = Everything {
             rows: word(seen, 0) == "yes",
             links: word(seen, 1) == "yes",
-            pairs: word(seen, 2).parse::<u32>().unwrap_or(0),
-            version: word(seen, 3).parse::<u64>().unwrap_or(0),
+            pairs: short_number(seen, 2),
+            version: number(seen, 3),
         };
         let found = match check(alloc, &op_of_json(alloc, text.as_bytes())?, &schema, &rows) {
             Ok(()) => String::from_str(alloc, "passes")?,
@@ -322,9 +351,15 @@ fn a_check_looks_at_the_rows_beside_a_schema(rt: HostRuntime) -> Result<(), Fail
 
 const TABLE: &str = r#"{"columns":[{"name":"N","type":"text"}],"op":"insert_table","table":"T"}"#;
 
+// How many bytes a byte row of fewer than 2^32 has.
+fn length_of(row: &[u8]) -> u32 {
+    u32::try_from(row.len()).unwrap_or(0)
+}
+
 // A byte row of fewer than 2^32 bytes: how many it has, in four bytes, and its own.
 fn put(out: &mut Bytes, row: &[u8]) -> Result<(), AllocError> {
-    out.append(&u32::try_from(row.len()).unwrap_or(0).to_be_bytes())?;
+    let length = length_of(row);
+    out.append(&length.to_be_bytes())?;
     out.append(row)
 }
 

@@ -1,8 +1,8 @@
-use Rattle.sea_core.proofs.Counting.{edit_counts, edit_places, feed_gives, feed_counts}
+use Rattle.sea_core.proofs.Counting.{counted, edit_places, feed_gives, feed_counts}
 use Rattle.sea_core.proofs.laws.each_version_has_its_entry.Goals as goal
 
-pub returns-clause-kept : goal.returns-clause-kept
-returns-clause-kept g c = edit_counts
+pub returns-clause-counted : goal.returns-clause-counted
+returns-clause-counted g c = counted
 
 pub returns-clause-fed : goal.returns-clause-fed
 returns-clause-fed g c = feed_counts

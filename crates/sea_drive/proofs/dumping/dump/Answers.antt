@@ -8,22 +8,15 @@ use Rattle.sea_drive.proofs.dumping.dump.Goals as goal
 
 pub returns-in-Ok-clause-ends : goal.returns-in-Ok-clause-ends
 returns-in-Ok-clause-ends g c =
-    let lines = dump_lines c.in-Ok.core.base in
+    let lines = dump_lines c.in-Ok.core.content in
     let taken = g.K.Sink.taken c.args.sink.now in
     let given = g.K.Sink.taken c.write_base-written.new.sink in
-    let says = says_of_lines c.write_base-written.result lines taken given c.write_base-written.ensures.gives in
+    let gives = rw c.content.ensures at c.write_base-written.ensures.gives in
+    let says = says_of_lines c.write_base-written.result lines taken given gives in
     inl (record {
       core = c.in-Ok.core;
-      start = record {
-        found = λ told. c.in-Ok.ensures.found told;
-        sound = λ told. c.in-Ok.ensures.sound told;
-        whole = c.in-Ok.ensures.fresh.0;
-        same_limits = c.in-Ok.ensures.fresh.1;
-        no_history = c.in-Ok.ensures.fresh.2;
-        opening = c.in-Ok.ensures.fresh.3;
-        any_moment = λ told. c.in-Ok.ensures.any_moment told;
-      };
-      kept = c.finish.ensures;
+      start = c.in-Ok.ensures;
+      back_is = c.finish.ensures;
       says = subst (λ (ending : Status). SaysOfLines ending lines taken given) (sym c.dump_status.ensures) says;
     })
 
@@ -32,10 +25,7 @@ pub returns-in-Err-clause-ends : goal.returns-in-Err-clause-ends
 returns-in-Err-clause-ends g c = inr (record {
   fault = c.in-Err.fault;
   says = c.start_status.ensures;
-  start = record {
-    no_base = λ told. c.in-Err.ensures.no_base told;
-    any_moment = λ told. c.in-Err.ensures.any_moment_refused told;
-  };
+  start = c.in-Err.ensures;
   nothing = Appends-nil (g.K.Sink.taken c.args.sink.now);
 })
 

@@ -1,24 +1,19 @@
-use Rattle.std.proofs.Common.{refl}
+use Rattle.std.proofs.Common.{ap, Some}
+use Rattle.sea_operation.specs.declared.base.Plain.{Plain}
+use Rattle.sea_drive.specs.declared.outcome.LineOutcome.TheVariants as outcome
+use Rattle.sea_core.specs.Events.{Starts, Refuses}
+use Rattle.sea_core.specs.State.{known}
 use Rattle.sea_drive.proofs.StandsLaws.{found_again}
 use Rattle.sea_drive.proofs.playing.reopen.Goals as goal
 
-pub returns-in-Err-clause-step : goal.returns-in-Err-clause-step
-returns-in-Err-clause-step g c = λ clock rest. record {
-  no_base = λ told. rw c.finish.ensures at (c.in-Err.ensures.no_base told);
-  any_moment = λ told. rw c.finish.ensures at (c.in-Err.ensures.any_moment_refused told);
-}
+pub returns-in-Err : goal.returns-in-Err
+returns-in-Err g c = λ clock rest. rw c.finish.ensures at c.in-Err.ensures
 
-pub returns-in-Ok-clause-step : goal.returns-in-Ok-clause-step
-returns-in-Ok-clause-step g c = λ clock rest. record {
-  shown = refl;
-  starts = record {
-    found = λ told. rw c.finish.ensures at (c.in-Ok.ensures.found told);
-    sound = λ told. c.in-Ok.ensures.sound told;
-    whole = c.in-Ok.ensures.fresh.0;
-    same_limits = c.in-Ok.ensures.fresh.1;
-    no_history = c.in-Ok.ensures.fresh.2;
-    opening = c.in-Ok.ensures.fresh.3;
-    any_moment = λ told. rw c.finish.ensures at (c.in-Ok.ensures.any_moment told);
-  };
-  found = λ told sound. found_again g.D.Disk.shows g.met.D.Disk.sound c.one_base_at_most.ensures c.args.core c.in-Ok.core.base sound (rw c.finish.ensures at (c.in-Ok.ensures.found told));
-}
+pub returns-in-Ok : goal.returns-in-Ok
+returns-in-Ok g c = λ clock rest.
+    let starts : Starts (known g.D.Disk.told g.D.Disk.shows g.D.Disk.faults g.D.Disk.failed) c.args.core.disk c.args.core.limits c.in-Ok.core = rw (c.finish.ensures, c.limits-limits.ensures) at c.in-Ok.ensures in
+    record {
+      comes = ap (λ (base : Plain). Some (outcome.Reopened base.version)) c.content.ensures;
+      starts = starts;
+      found = λ told sound. found_again g.D.Disk.shows g.met.D.Disk.sound c.one_base_at_most.ensures c.args.core c.in-Ok.core.content sound (starts.found told);
+    }

@@ -1,4 +1,0 @@
-use Rattle.sea_core.proofs.preparing.next_base.Goals as goal
-
-pub returns-in-Err : goal.returns-in-Err
-returns-in-Err c = c.refused.ensures c.args.base.now c.args.entry.now c.in-Err.ensures
